@@ -114,26 +114,34 @@ module _ (asked : Mode) (reports : List Event → List ℕ) (bytes : List ℕ) w
     found-classifies : (model : Model) → model_of_value d ≡ Ok model → (o : Option (List (List ℕ))) → first_lists model ≡ o
         → ClassifiesFirst bytes (reply_to_found asked reports model (option_map (found_from asked model) o)).status
     found-classifies model is None none =
-        undone-classifies model_of_value 6 has_first has_no_first (omega arith) (λ e. absurd (omega arith)) bytes d short some model is none (λ h. let k = subst IsSome none h in absurd cc)
+        undone-classifies model_of_value 6 has_first has_no_first (omega arith) (λ e. absurd (omega arith))
+        bytes d short some model is none (λ h. let k = subst IsSome none h in absurd cc)
     found-classifies model is (Some lists) first =
-        done-classifies model_of_value 6 has_first has_no_first (omega arith) (λ e. absurd (omega arith)) bytes d short some model is (subst IsSome (sym first) refl) (λ h. let k = sym first ∙ h in absurd cc)
+        done-classifies model_of_value 6 has_first has_no_first (omega arith) (λ e. absurd (omega arith))
+        bytes d short some model is (subst IsSome (sym first) refl) (λ h. let k = sym first ∙ h in absurd cc)
 
     model-classifies : (m : Result Model Fault) → model_of_value d ≡ m → ClassifiesFirst bytes (reply_to_model asked reports m).status
-    model-classifies (Err fault) is = fault-classifies model_of_value 6 has_first has_no_first (omega arith) (λ e. absurd (omega arith)) bytes d short some fault is
+    model-classifies (Err fault) is =
+        fault-classifies model_of_value 6 has_first has_no_first (omega arith) (λ e. absurd (omega arith)) bytes d short some fault is
     model-classifies (Ok model) is = found-classifies model is (first_lists model) refl
 
   pub input-classifies : ClassifiesFirst bytes (reply_to_input (task.Find asked) reports bytes).status
   input-classifies =
-      of_input-classifies model_of_value 6 has_first has_no_first (omega arith) (λ e. absurd (omega arith)) bytes (reply_to_tree (task.Find asked) reports) (λ d short some. model-classifies d short some (model_of_value d) refl)
+      of_input-classifies model_of_value 6 has_first has_no_first (omega arith) (λ e. absurd (omega arith)) bytes
+      (reply_to_tree (task.Find asked) reports) (λ d short some. model-classifies d short some (model_of_value d) refl)
 
   input-refused : (fault : Fault) → HasFault model_of_value bytes fault → (reply_to_input (task.Find asked) reports bytes).text ≡ text_line (refused_tree fault)
   input-refused fault r =
-      ap (λ reply. reply.text) (reply-short (reply_to_tree (task.Find asked) reports) bytes r.short ∙ ap (reply_to_json (reply_to_tree (task.Find asked) reports)) r.is_value ∙ ap (reply_to_model asked reports) r.is_fault)
+      ap (λ reply. reply.text) (reply-short (reply_to_tree (task.Find asked) reports) bytes r.short
+      ∙ ap (reply_to_json (reply_to_tree (task.Find asked) reports)) r.is_value ∙ ap (reply_to_model asked reports) r.is_fault)
 
 module _ (reports : List Event → List ℕ) (words : List (List ℕ)) (bytes : List ℕ) where
   pub solved-classifies : IsSolutionAsked words → ClassifiesFirst bytes (reply reports words bytes).status
-  solved-classifies h = let P : Option Request → Type 0 = λ o. ClassifiesFirst bytes (reply_in reports o bytes).status in subst P (sym h.1) (input-classifies h.0 reports bytes)
+  solved-classifies h =
+      let P : Option Request → Type 0 = λ o. ClassifiesFirst bytes (reply_in reports o bytes).status in
+      subst P (sym h.1) (input-classifies h.0 reports bytes)
 
   -- a refusal says the fault
-  pub solved-refused : (fault : Fault) → IsSolutionAsked words → HasFault model_of_value bytes fault → (reply reports words bytes).text ≡ text_line (refused_tree fault)
+  pub solved-refused : (fault : Fault) → IsSolutionAsked words → HasFault model_of_value bytes fault
+      → (reply reports words bytes).text ≡ text_line (refused_tree fault)
   solved-refused fault h r = ap (λ o. (reply_in reports o bytes).text) h.1 ∙ input-refused h.0 reports bytes fault r

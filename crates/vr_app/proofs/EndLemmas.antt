@@ -19,7 +19,8 @@ use Rattle.vr_app.proofs.GeneratedLemmas.{or-else}
 -- the status of a number
 abbrev status_of : ℕ → Status
 status_of n =
-    get_or (all.Done ∷ all.Usage ∷ all.ReadFault ∷ all.WriteFault ∷ all.NotJson ∷ all.Refused ∷ all.NoneFound ∷ all.NoMemory ∷ all.TooLong ∷ all.NotMet ∷ []) n all.Done
+    get_or (all.Done ∷ all.Usage ∷ all.ReadFault ∷ all.WriteFault ∷ all.NotJson
+    ∷ all.Refused ∷ all.NoneFound ∷ all.NoMemory ∷ all.TooLong ∷ all.NotMet ∷ []) n all.Done
 
 status_back : (status : Status) → status_of (status_number status) ≡ status
 status_back all.Done = refl
@@ -82,7 +83,8 @@ module _ {K : Type 0} (written : K → Option (List ℕ)) (faults : K → ℕ) (
   end-written (inr (inr (inr silent))) settled = absurd (settled.has_memory silent.status_is)
 
   -- where neither source nor sink failed, there is a written answer, or memory was wanting
-  end-whole : Ends written faults P failed old new status → (failed → ⊥) → (Rose (faults old) (faults new) → ⊥) → (status ≡ 7) ⊎ IsAnswered P (written old) (written new) status
+  end-whole : Ends written faults P failed old new status → (failed → ⊥)
+      → (Rose (faults old) (faults new) → ⊥) → (status ≡ 7) ⊎ IsAnswered P (written old) (written new) status
   end-whole (inl is) calm quiet = inr is
   end-whole (inr (inl cut)) calm quiet = absurd (quiet cut.fault)
   end-whole (inr (inr (inl silent))) calm quiet = absurd (calm silent.1)
@@ -110,8 +112,10 @@ module _ {K : Type 0} (written : K → Option (List ℕ)) (faults : K → ℕ) (
 -- what is delivered of an answer of which P holds
 pub delivered : {K : Type 0} (written : K → Option (List ℕ)) (faults : K → ℕ) (P Q : Answer → Type 0) (failed cause : Type 0) (old new : K) (status : ℕ)
     → ((answer : Answer) → P answer → Q answer) → (failed → cause) → Ends written faults P failed old new status → Ends written faults Q cause old new status
-delivered written faults P Q failed cause old new status f g (inl is) = inl (record { answer = is.answer; responds = f is.answer is.responds; status_is = is.status_is; took = is.took })
-delivered written faults P Q failed cause old new status f g (inr (inl cut)) = inr (inl (record { answer = cut.answer; responds = f cut.answer cut.responds; status_is = cut.status_is; took = cut.took; fault = cut.fault }))
+delivered written faults P Q failed cause old new status f g (inl is) =
+    inl (record { answer = is.answer; responds = f is.answer is.responds; status_is = is.status_is; took = is.took })
+delivered written faults P Q failed cause old new status f g (inr (inl cut)) =
+    inr (inl (record { answer = cut.answer; responds = f cut.answer cut.responds; status_is = cut.status_is; took = cut.took; fault = cut.fault }))
 delivered written faults P Q failed cause old new status f g (inr (inr (inl silent))) = inr (inr (inl (silent.0, g silent.1)))
 delivered written faults P Q failed cause old new status f g (inr (inr (inr silent))) = inr (inr (inr silent))
 
@@ -125,7 +129,8 @@ of_err {e = e} is = subst (λ r. IsErrOf r e) (sym is) refl
 
 -- ---- the clauses of a run
 
-module _ {K : Type 0} {written : K → Option (List ℕ)} {faults : K → ℕ} {program : Program} {unknown asking : Type 0} {words : List (List ℕ)} {left_before left_after : Option (List ℕ)} {read_faults_before read_faults_after : ℕ} {old new : K} {status : ℕ}
+module _ {K : Type 0} {written : K → Option (List ℕ)} {faults : K → ℕ} {program : Program} {unknown asking : Type 0}
+    {words : List (List ℕ)} {left_before left_after : Option (List ℕ)} {read_faults_before read_faults_after : ℕ} {old new : K} {status : ℕ}
     (ran : RanBy written faults program unknown asking words left_before left_after read_faults_before read_faults_after old new status) where
   abbrev P : Answer → Type 0
   P = RespondsBy program unknown asking words left_before left_after
@@ -155,7 +160,8 @@ module _ {K : Type 0} {written : K → Option (List ℕ)} {faults : K → ℕ} {
   pub replies : IsStatusOfAnswer status → WhereKnown left_before (λ bytes. Replies (program.reply words bytes) (written old) (written new) status)
   replies settled bytes known = let is = is_written settled in written-replies is (is.responds.replies bytes known)
 
-  pub unread : IsStatusOfAnswer status → program.is_read words ≡ false → (bytes : List ℕ) → Replies (program.reply words bytes) (written old) (written new) status
+  pub unread : IsStatusOfAnswer status → program.is_read words ≡ false → (bytes : List ℕ)
+      → Replies (program.reply words bytes) (written old) (written new) status
   unread settled none bytes = let is = is_written settled in written-replies is (is.responds.unread none bytes)
 
   pub usage_only : status ≡ 1 → unknown
@@ -178,18 +184,22 @@ module _ {K : Type 0} {written : K → Option (List ℕ)} {faults : K → ℕ} {
   whole : (F → ⊥) → (Rose (faults old) (faults new) → ⊥) → (status ≡ 7) ⊎ IsAnswered P (written old) (written new) status
   whole = end-whole written faults P F old new status ran.ends
 
-  pub complete : WhereKnown left_before (λ bytes. (Rose read_faults_before read_faults_after → ⊥) → (Rose (faults old) (faults new) → ⊥) → (status ≡ 7) ⊎ Replies (program.reply words bytes) (written old) (written new) status)
+  pub complete : WhereKnown left_before (λ bytes. (Rose read_faults_before read_faults_after → ⊥)
+      → (Rose (faults old) (faults new) → ⊥) → (status ≡ 7) ⊎ Replies (program.reply words bytes) (written old) (written new) status)
   complete bytes known calm quiet = or-else (λ is. written-replies is (is.responds.replies bytes known)) (whole (λ f. calm f.0) quiet)
 
-  pub complete_unread : program.is_read words ≡ false → (Rose (faults old) (faults new) → ⊥) → (bytes : List ℕ) → (status ≡ 7) ⊎ Replies (program.reply words bytes) (written old) (written new) status
+  pub complete_unread : program.is_read words ≡ false → (Rose (faults old) (faults new) → ⊥)
+      → (bytes : List ℕ) → (status ≡ 7) ⊎ Replies (program.reply words bytes) (written old) (written new) status
   complete_unread none quiet bytes = or-else (λ is. written-replies is (is.responds.unread none bytes)) (whole (λ f. let k = sym f.1 ∙ none in absurd cc) quiet)
 
   -- the source was read to its end
-  pub emptied : program.is_read words ≡ true → status ≢ 2 → status ≢ 7 → status ≢ 8 → WhereKnown left_before (λ bytes. (status ≡ 3 → (program.reply words bytes).status ≢ 8) → left_after ≡ Some [])
+  pub emptied : program.is_read words ≡ true → status ≢ 2 → status ≢ 7 → status ≢ 8
+      → WhereKnown left_before (λ bytes. (status ≡ 3 → (program.reply words bytes).status ≢ 8) → left_after ≡ Some [])
   emptied reads read memory long bytes known cut_long = by ran.ends
     where
       by : Ends written faults P F old new status → left_after ≡ Some []
       by (inl is) = is.responds.emptied reads (λ e. long (is.status_is ∙ ap status_number e)) bytes known
-      by (inr (inl is)) = is.responds.emptied reads (λ e. cut_long is.status_is (sym (is.responds.replies bytes known).status_is ∙ ap status_number e)) bytes known
+      by (inr (inl is)) =
+          is.responds.emptied reads (λ e. cut_long is.status_is (sym (is.responds.replies bytes known).status_is ∙ ap status_number e)) bytes known
       by (inr (inr (inl silent))) = absurd (read silent.0.status_is)
       by (inr (inr (inr silent))) = absurd (memory silent.status_is)

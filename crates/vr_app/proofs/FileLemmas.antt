@@ -107,12 +107,16 @@ module _ (vehicles : ℕ) (bytes : List ℕ) where
   -- the reply to a file that is not too long
   pub file-short : length bytes ≤ max_input → reply_to_file vehicles bytes ≡ reply_to_imported (imported vehicles bytes)
   unfolding reply_to_file
-  file-short h = let e : nat_lt max_input (length bytes) ≡ false = grind (arith, nat_tests) in ap (λ b. cond b too_long (reply_to_imported (imported vehicles bytes))) e
+  file-short h =
+      let e : nat_lt max_input (length bytes) ≡ false = grind (arith, nat_tests) in
+      ap (λ b. cond b too_long (reply_to_imported (imported vehicles bytes))) e
 
   -- the reply to one that is too long
   pub file-long : max_input < length bytes → reply_to_file vehicles bytes ≡ too_long
   unfolding reply_to_file
-  file-long h = let e : nat_lt max_input (length bytes) ≡ true = grind (arith, nat_tests) in ap (λ b. cond b too_long (reply_to_imported (imported vehicles bytes))) e
+  file-long h =
+      let e : nat_lt max_input (length bytes) ≡ true = grind (arith, nat_tests) in
+      ap (λ b. cond b too_long (reply_to_imported (imported vehicles bytes))) e
 
   -- what holds of the reply to each kind of file holds of the reply to the bytes
   module _ (P : Reply → Type 0) (of_long : max_input < length bytes → P too_long)
@@ -141,7 +145,8 @@ module _ (vehicles : ℕ) (bytes : List ℕ) where
     json = λ e. absurd (omega arith);
   }
 
-  imported-classifies : length bytes ≤ max_input → (m : Result Data Fault) → imported vehicles bytes ≡ m → ClassifiesFile vehicles bytes (reply_to_imported m).status
+  imported-classifies : length bytes ≤ max_input → (m : Result Data Fault)
+      → imported vehicles bytes ≡ m → ClassifiesFile vehicles bytes (reply_to_imported m).status
   imported-classifies short (Err fault) is = record {
     too_long = (λ e. absurd (omega arith), λ h. absurd (omega arith));
     flawed = (λ e. (fault, record { short = short; is_fault = is }), λ h. refl);
@@ -163,7 +168,8 @@ module _ (vehicles : ℕ) (bytes : List ℕ) where
   file-refused fault h = ap (λ reply. reply.text) (file-short vehicles bytes h.short ∙ ap reply_to_imported h.is_fault)
 
   -- a model is reported
-  pub file-reported : (reply_to_file vehicles bytes).status ≡ 0 → (tree : Data) × IsImportedAs vehicles bytes tree × ((reply_to_file vehicles bytes).text ≡ text_line tree)
+  pub file-reported : (reply_to_file vehicles bytes).status ≡ 0
+      → (tree : Data) × IsImportedAs vehicles bytes tree × ((reply_to_file vehicles bytes).text ≡ text_line tree)
   file-reported zero =
       let is = file-classifies.done.0 zero in
       (is.0, is.1, ap (λ reply. reply.text) (file-short vehicles bytes is.1.short ∙ ap reply_to_imported is.1.is_tree))

@@ -107,7 +107,8 @@ or-else f (inl a) = inl a
 or-else f (inr b) = inr (f b)
 
 -- words that read nothing and are accepted have a reply of status 0
-pub unread-done : (reports : List Event → List ℕ) (words : List (List ℕ)) (bytes : List ℕ) → ReadsNothing words → IsNotAccepted words ⊎ ((reply reports words bytes).status ≡ 0)
+pub unread-done : (reports : List Event → List ℕ) (words : List (List ℕ)) (bytes : List ℕ)
+    → ReadsNothing words → IsNotAccepted words ⊎ ((reply reports words bytes).status ≡ 0)
 unread-done reports words bytes unread = by (request_of words) unread
   where
     by : (o : Option Request) → is_read o ≡ false → (o ≡ None) ⊎ ((reply_in reports o bytes).status ≡ 0)

@@ -1,5 +1,6 @@
 -- The matrix of a file is read as a matrix without negative entries.
-use Rattle.std.proofs.Common.{◌≡◌, ◌∙◌, ◌⊎◌, inl, inr, ℕ, zero, suc, ◌+◌, ◌-◌, ◌*◌, ◌/◌, ◌<◌, ◌≤◌, ◌==◌, Bool, true, false, List, [], ◌∷◌, map, length, get_or, Ok, refl, arith}
+use Rattle.std.proofs.Common.{◌≡◌, ◌∙◌, ◌⊎◌, inl, inr, ℕ, zero, suc, ◌+◌, ◌-◌, ◌*◌, ◌/◌, ◌<◌, ◌≤◌, ◌==◌, Bool, true, false, List, [], ◌∷◌, map, length, get_or}
+use Rattle.std.proofs.Common.{Ok, refl, arith}
 use Rattle.std.specs.Prelude.{ℤ, pos, ◌≤ℤ◌, flat_map, nat_lt, max, min, if◌then◌else◌}
 use Rattle.std.specs.List.{All}
 use Rattle.std.proofs.lemmas.Bool.{cases_order}
@@ -65,13 +66,16 @@ module _ {A : Type 0} (n : ℕ) (weigh : A → A → ℕ) (xs : List A) (all : l
       each b k so_far path = whole_reads (weigh a b) (omega (arith, k)) least_value greatest_cost path (omega (arith, ints)) (omega (arith, ints, k))
 
   rows_up : All (All (λ z. pos 0 ≤ℤ z)) (map row_read xs)
-  rows_up = All-map (All (λ z. pos 0 ≤ℤ z)) row_read xs (λ i a low. All-map (λ z. pos 0 ≤ℤ z) (λ b. pos (weigh (get_or xs i a) b)) xs (λ j b near. omega (arith, ints)))
+  rows_up = All-map (All (λ z. pos 0 ≤ℤ z)) row_read xs
+      (λ i a low. All-map (λ z. pos 0 ≤ℤ z) (λ b. pos (weigh (get_or xs i a) b)) xs (λ j b near. omega (arith, ints)))
 
   weights_read : All IsLightTo xs → IsCostMatrix n (listed row_of xs)
   unfolding matrix_of and_then
   weights_read light = record {
     matrix = record { entries = flat_map (λ row. row) (map row_read xs) };
-    is_read = λ path. step _ (array_each row_reader row_of row_read n n path xs (omega (arith, all)) (omega (arith, all)) (All-weaker IsLightTo (ReadsAs row_reader row_of row_read) row_reads xs light)) refl;
+    is_read = λ path. step _
+        (array_each row_reader row_of row_read n n path xs (omega (arith, all)) (omega (arith, all))
+        (All-weaker IsLightTo (ReadsAs row_reader row_of row_read) row_reads xs light)) refl;
     not_negative = all_joined (λ z. pos 0 ≤ℤ z) (map row_read xs) rows_up;
   }
 
@@ -99,11 +103,14 @@ nearest_light n high =
 
 distance_light : (a b : SiteRow) → IsSiteInRange a → IsSiteInRange b → IsLight (distance a b)
 distance_light a b h k =
-    nearest_light _ (squares_low (axis_gap a.x b.x) (axis_gap a.y b.y) (apart_low a.x b.x h.x_least h.x_most k.x_least k.x_most) (apart_low a.y b.y h.y_least h.y_most k.y_least k.y_most))
+    nearest_light _
+    (squares_low (axis_gap a.x b.x) (axis_gap a.y b.y) (apart_low a.x b.x h.x_least h.x_most k.x_least k.x_most)
+    (apart_low a.y b.y h.y_least h.y_most k.y_least k.y_most))
 
 distances_light : (places : List SiteRow) → All IsSiteInRange places → All (λ a. All (λ b. IsLight (distance a b)) places) places
 distances_light places near =
-    All-weaker IsSiteInRange (λ a. All (λ b. IsLight (distance a b)) places) (λ a h. All-weaker IsSiteInRange (λ b. IsLight (distance a b)) (λ b k. distance_light a b h k) places near) places near
+    All-weaker IsSiteInRange (λ a. All (λ b. IsLight (distance a b)) places)
+    (λ a h. All-weaker IsSiteInRange (λ b. IsLight (distance a b)) (λ b k. distance_light a b h k) places near) places near
 
 -- ---- weights that stand in the file
 
@@ -117,7 +124,9 @@ none_or true w h = omega arith
 none_or false w h = h
 
 each_light : (lower : Bool) (n : ℕ) (weights : List ℕ) (i j : ℕ) → All IsLight weights → IsLight (weight lower n weights i j)
-each_light true n weights i j h = let hi = max i j in none_or (i == j) (weight_at weights (hi * (hi - 1) / 2 + min i j)) (weight_light weights (hi * (hi - 1) / 2 + min i j) h)
+each_light true n weights i j h =
+    let hi = max i j in
+    none_or (i == j) (weight_at weights (hi * (hi - 1) / 2 + min i j)) (weight_light weights (hi * (hi - 1) / 2 + min i j) h)
 each_light false n weights i j h = weight_light weights (i * n + j) h
 
 weights_light : (lower : Bool) (n : ℕ) (weights : List ℕ) → All IsLight weights → All (λ i. All (λ j. IsLight (weight lower n weights i j)) (below n)) (below n)
@@ -131,5 +140,7 @@ pub matrix_read : (distances : Distances) (n : ℕ) (state : State) → AreLines
 matrix_read Plane n state sound =
     let places = sites n state.sites in
     weights_read n distance places (length-map (file_nodes n) _ ∙ length-range_with_len 1 n) (distances_light places (sites_near n state.sites sound.sites))
-matrix_read Full n state sound = weights_read n (weight false n state.weights) (below n) (length-range_with_len 0 n) (weights_light false n state.weights sound.weights)
-matrix_read Lower n state sound = weights_read n (weight true n state.weights) (below n) (length-range_with_len 0 n) (weights_light true n state.weights sound.weights)
+matrix_read Full n state sound =
+    weights_read n (weight false n state.weights) (below n) (length-range_with_len 0 n) (weights_light false n state.weights sound.weights)
+matrix_read Lower n state sound =
+    weights_read n (weight true n state.weights) (below n) (length-range_with_len 0 n) (weights_light true n state.weights sound.weights)

@@ -60,7 +60,8 @@ module _ (vehicles : ℕ) (state : State) (problem : Problem) (one : Matrix) whe
       }
 
   costs_pass : (path : List ℕ) → All (λ z. pos 0 ≤ℤ z) one.entries → costs_rule path model_read ≡ Ok tt
-  costs_pass path up = for_range_passes _ 0 (length model_read.vehicles) (λ v. refuse_none NegativeCost _ (none_negative one (vehicle_at model_read v).costs up))
+  costs_pass path up =
+      for_range_passes _ 0 (length model_read.vehicles) (λ v. refuse_none NegativeCost _ (none_negative one (vehicle_at model_read v).costs up))
 
   entries_pass : (path : List ℕ) → entries_rule path model_read ≡ Ok tt
   unfolding for_all refuse_if and_then
@@ -79,13 +80,16 @@ module _ (vehicles : ℕ) (state : State) (problem : Problem) (one : Matrix) whe
   module _ (some : IsCountIn 1 100 vehicles) (sound : AreLinesInRange state) (within : IsProblem problem)
       (matrix_reads : (path : List ℕ) → matrix_of problem.nodes path (matrix problem.distances problem.nodes state) ≡ Ok one) where
     table_reads : (path : List ℕ) → model_table path (tree_of vehicles state problem) ≡ Ok model_read
-    unfolding model_table base parts visit_tables tree_of format count_of required optional known if_unknown field if_present array_of list entries at_path and_then
+    unfolding model_table base parts visit_tables tree_of format count_of required
+        optional known if_unknown field if_present array_of list entries at_path and_then
     table_reads path =
         let n = problem.nodes in
         let node = problem.depot - 1 in
         let all = fleet_read vehicles node in
         let low : node < n = omega (arith, within.depot.0, within.depot.1) in
-        step _ (step _ (count_reads n 1 1000 _ within.nodes.0 within.nodes.1 (omega arith)) (step _ (step _ (matrix_reads _) refl) (step _ (fleet_reads n node within.nodes.1 low vehicles _ some.0 some.1) refl)))
+        step _
+        (step _ (count_reads n 1 1000 _ within.nodes.0 within.nodes.1 (omega arith))
+        (step _ (step _ (matrix_reads _) refl) (step _ (fleet_reads n node within.nodes.1 low vehicles _ some.0 some.1) refl)))
         (step _ (step _ (step _ (loads_reads n state (length all) problem.capacity all _ sound.demands within.capacity) refl) refl) refl)
 
     model_reads : (path : List ℕ) → All (λ z. pos 0 ≤ℤ z) one.entries → read_model path (tree_of vehicles state problem) ≡ Ok model_read
@@ -97,7 +101,8 @@ of_file_reads : (vehicles : ℕ) (tree : Data) (path : List ℕ) → IsCountIn 1
 of_file_reads vehicles tree path some file =
     let cost = matrix_read file.problem.distances file.problem.nodes file.state file.sound in
     let model = model_read vehicles file.state file.problem cost.matrix in
-    let is : read_model path tree ≡ Ok model = ap (read_model path) file.is ∙ model_reads vehicles file.state file.problem cost.matrix some file.sound file.in_range cost.is_read path cost.not_negative in
+    let is : read_model path tree ≡ Ok model = ap (read_model path) file.is
+    ∙ model_reads vehicles file.state file.problem cost.matrix some file.sound file.in_range cost.is_read path cost.not_negative in
     record { model = model; is_read = is; is_well_formed = well_formed_from_read path tree model is }
 
 pub imported_trees_are_models : ImportedTreesAreModels

@@ -22,7 +22,8 @@ module _ {W : Type 0} {after : W → List Event → List ℕ} {old new : List W}
       record { ends = record { best_is = whole.best; report_is = whole.report; visits_are = whole.same_visits }; told = whole.told }
 
   -- the same, where it was handed one thing more of the model
-  pub is_improved_by : {A : Type 0} {model : Model} {limit given wanted : Limit} {handed asked : A} {from to chosen : Tours} {report : Report} (ends : Limit → A → Outcome)
+  pub is_improved_by : {A : Type 0} {model : Model} {limit given wanted : Limit}
+      {handed asked : A} {from to chosen : Tours} {report : Report} (ends : Limit → A → Outcome)
       → given ≡ wanted → handed ≡ asked → HasEnded after model limit (ends given handed) from to old new report chosen
       → IsImproved after from.visits (ends wanted asked) old new (record { routes = chosen; report = report })
   is_improved_by {model} {limit} {given} {asked} {from} {to} {chosen} {report} ends is more_is ended =

@@ -29,7 +29,9 @@ module _ (reply : Data → Reply) (bytes : List ℕ) where
   -- the reply to an input that is not too long
   pub reply-short : length bytes ≤ max_input → reply_to_bytes reply bytes ≡ reply_to_json reply (input_value bytes)
   unfolding reply_to_bytes
-  reply-short h = let e : nat_lt max_input (length bytes) ≡ false = grind (arith, nat_tests) in ap (λ b. cond b too_long (reply_to_json reply (input_value bytes))) e
+  reply-short h =
+      let e : nat_lt max_input (length bytes) ≡ false = grind (arith, nat_tests) in
+      ap (λ b. cond b too_long (reply_to_json reply (input_value bytes))) e
 
   -- the same, where its value is known
   pub reply-value : (o : Option Data) → length bytes ≤ max_input → o ≡ input_value bytes → reply_to_json reply o ≡ reply_to_bytes reply bytes
@@ -38,7 +40,9 @@ module _ (reply : Data → Reply) (bytes : List ℕ) where
   -- the reply to one that is too long
   pub reply-long : max_input < length bytes → reply_to_bytes reply bytes ≡ too_long
   unfolding reply_to_bytes
-  reply-long h = let e : nat_lt max_input (length bytes) ≡ true = grind (arith, nat_tests) in ap (λ b. cond b too_long (reply_to_json reply (input_value bytes))) e
+  reply-long h =
+      let e : nat_lt max_input (length bytes) ≡ true = grind (arith, nat_tests) in
+      ap (λ b. cond b too_long (reply_to_json reply (input_value bytes))) e
 
   -- what holds of the reply to each kind of input holds of the reply to the bytes
   module _ (P : Reply → Type 0) (of_long : max_input < length bytes → P too_long) (of_none : length bytes ≤ max_input → input_value bytes ≡ None → P not_json)

@@ -21,7 +21,8 @@ use Rattle.vr_app.specs.Input.{max_input, input_value}
 use Rattle.vr_printed.specs.Printed.{assignment_of}
 use Rattle.vr_app.specs.Met.{IsBrokenBy, HasKept, IsMetBy, IsSpannedBy}
 use Rattle.vr_app.specs.Spans.{printed_assignment, spans_of, spans_tree}
-use Rattle.vr_app.specs.Reply.{Reply, answer_tree, not_json, reply, reply_in, reply_to_checked, reply_to_finding, reply_to_input, reply_to_json, reply_to_tree, too_long}
+use Rattle.vr_app.specs.Reply.{Reply, answer_tree, not_json, reply, reply_in, reply_to_checked, reply_to_finding, reply_to_input, reply_to_json, reply_to_tree}
+use Rattle.vr_app.specs.Reply.{too_long}
 use Rattle.vr_app.specs.Runs.{Asks, ReadsInput, ReadsJson}
 use Rattle.vr_app.specs.Texts.{refused_tree}
 use Rattle.vr_app.specs.Words.{is_read, reads_json, request_of}
@@ -77,9 +78,11 @@ module _ (asked : Question) (reports : List Event → List ℕ) (bytes : List �
   module _ (d : Data) (short : length bytes ≤ max_input) (some : input_value bytes ≡ Some d) where
     finding-classifies : (it : Checked) → checked_of d ≡ Ok it → (f : Finding) → found_in it ≡ f → ClassifiesMet bytes (reply_to_finding asked it f).status
     finding-classifies it is (Meets cost) e =
-        done-classifies checked_of 9 meets breaks (omega arith) (λ e. absurd (omega arith)) bytes d short some it is (ap is_met e) (λ h. let k = sym (ap is_met e) ∙ h in absurd cc)
+        done-classifies checked_of 9 meets breaks (omega arith) (λ e. absurd (omega arith))
+        bytes d short some it is (ap is_met e) (λ h. let k = sym (ap is_met e) ∙ h in absurd cc)
     finding-classifies it is (Broken rule vehicle place) e =
-        undone-classifies checked_of 9 meets breaks (omega arith) (λ e. absurd (omega arith)) bytes d short some it is (ap is_met e) (λ h. let k = sym (ap is_met e) ∙ h in absurd cc)
+        undone-classifies checked_of 9 meets breaks (omega arith) (λ e. absurd (omega arith))
+        bytes d short some it is (ap is_met e) (λ h. let k = sym (ap is_met e) ∙ h in absurd cc)
 
     checked-classifies : (m : Result Checked Fault) → checked_of d ≡ m → ClassifiesMet bytes (reply_to_checked asked m).status
     checked-classifies (Err fault) is = fault-classifies checked_of 9 meets breaks (omega arith) (λ e. absurd (omega arith)) bytes d short some fault is
@@ -87,11 +90,13 @@ module _ (asked : Question) (reports : List Event → List ℕ) (bytes : List �
 
   check-classifies : ClassifiesMet bytes (reply_to_input (task.Ask asked) reports bytes).status
   check-classifies =
-      of_input-classifies checked_of 9 meets breaks (omega arith) (λ e. absurd (omega arith)) bytes (reply_to_tree (task.Ask asked) reports) (λ d short some. checked-classifies d short some (checked_of d) refl)
+      of_input-classifies checked_of 9 meets breaks (omega arith) (λ e. absurd (omega arith)) bytes
+      (reply_to_tree (task.Ask asked) reports) (λ d short some. checked-classifies d short some (checked_of d) refl)
 
   check-refused : (fault : Fault) → HasFault checked_of bytes fault → (reply_to_input (task.Ask asked) reports bytes).text ≡ text_line (refused_tree fault)
   check-refused fault r =
-      ap (λ reply. reply.text) (reply-short (reply_to_tree (task.Ask asked) reports) bytes r.short ∙ ap (reply_to_json (reply_to_tree (task.Ask asked) reports)) r.is_value ∙ ap (reply_to_checked asked) r.is_fault)
+      ap (λ reply. reply.text) (reply-short (reply_to_tree (task.Ask asked) reports) bytes r.short
+      ∙ ap (reply_to_json (reply_to_tree (task.Ask asked) reports)) r.is_value ∙ ap (reply_to_checked asked) r.is_fault)
 
 -- ---- what the text says
 
@@ -110,7 +115,8 @@ finds_none : (asked : Question) (bytes : List ℕ) (answer : Reply) → (answer.
 finds_none asked bytes answer not_0 not_9 = record { met = λ e. absurd (not_0 e); broken = λ e. absurd (not_9 e) }
 
 module _ (asked : Question) (reports : List Event → List ℕ) (bytes : List ℕ) where
-  finding-finds : (it : Checked) → IsWellFormed it.model → IsReadAs checked_of bytes it → (f : Finding) → found_in it ≡ f → Finds asked bytes (reply_to_finding asked it f)
+  finding-finds : (it : Checked) → IsWellFormed it.model → IsReadAs checked_of bytes it
+      → (f : Finding) → found_in it ≡ f → Finds asked bytes (reply_to_finding asked it f)
   finding-finds it well is (Meets cost) e =
       let k = met_keeps_all_rules it.model it.solution cost well e in record {
         met = λ zero. record {
@@ -124,7 +130,8 @@ module _ (asked : Question) (reports : List Event → List ℕ) (bytes : List �
     broken = λ nine. record { it = it; rule = rule; vehicle = vehicle; place = place; is_read = is; is_found = e; text_is = refl };
   }
 
-  checked-finds : (d : Data) → length bytes ≤ max_input → input_value bytes ≡ Some d → (m : Result Checked Fault) → checked_of d ≡ m → Finds asked bytes (reply_to_checked asked m)
+  checked-finds : (d : Data) → length bytes ≤ max_input → input_value bytes ≡ Some d
+      → (m : Result Checked Fault) → checked_of d ≡ m → Finds asked bytes (reply_to_checked asked m)
   checked-finds d short some (Err fault) is = finds_none asked bytes _ (λ e. absurd (omega arith)) (λ e. absurd (omega arith))
   checked-finds d short some (Ok it) is =
       finding-finds it (checked-well_formed d it is) (record { short = short; value = d; is_value = some; is_read = is }) (found_in it) refl
@@ -150,7 +157,9 @@ kept-spanned bytes text is =
 
 module _ (asked : Question) (reports : List Event → List ℕ) (words : List (List ℕ)) (bytes : List ℕ) (asks : Asks asked words) where
   pub asked_words-classify : ClassifiesMet bytes (reply reports words bytes).status
-  asked_words-classify = let P : Option Request → Type 0 = λ o. ClassifiesMet bytes (reply_in reports o bytes).status in subst P (sym asks) (check-classifies asked reports bytes)
+  asked_words-classify =
+      let P : Option Request → Type 0 = λ o. ClassifiesMet bytes (reply_in reports o bytes).status in
+      subst P (sym asks) (check-classifies asked reports bytes)
 
   pub asked_words-find : Finds asked bytes (reply reports words bytes)
   asked_words-find = let P : Option Request → Type 0 = λ o. Finds asked bytes (reply_in reports o bytes) in subst P (sym asks) (check-finds asked reports bytes)
@@ -166,7 +175,8 @@ pub record ClassifiesText (words : List (List ℕ)) (bytes : List ℕ) (status :
   pub too_long : (status ≡ 8) ↔ IsTooLong bytes
   pub not_json : (status ≡ 4) ↔ (ReadsJson words × IsNotJson bytes)
 
-pub read-classifies : (reports : List Event → List ℕ) (words : List (List ℕ)) (bytes : List ℕ) → ReadsInput words → ClassifiesText words bytes (reply reports words bytes).status
+pub read-classifies : (reports : List Event → List ℕ) (words : List (List ℕ)) (bytes : List ℕ)
+    → ReadsInput words → ClassifiesText words bytes (reply reports words bytes).status
 read-classifies reports words bytes h = record { too_long = long (request_of words) h; not_json = json (request_of words) }
   where
     long : (o : Option Request) → is_read o ≡ true → ((reply_in reports o bytes).status ≡ 8) ↔ IsTooLong bytes

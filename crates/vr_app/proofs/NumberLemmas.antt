@@ -1,5 +1,6 @@
 -- Numbers in words.
-use Rattle.std.proofs.Common.{◌≡◌, ◌∙◌, ◌<◌, ◌≤◌, ℕ, List, [], ◌∷◌, Bool, true, false, not, ◌&&◌, cond, Option, Some, None, Result, Ok, Err, refl, ap, sym, arith, length}
+use Rattle.std.proofs.Common.{◌≡◌, ◌∙◌, ◌<◌, ◌≤◌, ℕ, List, [], ◌∷◌, Bool, true, false, not, ◌&&◌, cond, Option, Some, None, Result, Ok, Err, refl, ap, sym}
+use Rattle.std.proofs.Common.{arith, length}
 use Rattle.std.specs.Prelude.{◌^◌, nat_lt}
 use Rattle.std.specs.Char.{is_ascii_digit}
 use Rattle.std.specs.List.{list_all}
@@ -44,7 +45,8 @@ module _ (word : List ℕ) (numeral : is_numeral word ≡ true) where
   too_large : nat_lt value (2 ^ 64) ≡ false → number_in word ≡ None
   too_large large = ap (λ b. cond (b && nat_lt value (2 ^ 64)) (Some value) None) numeral ∙ ap (λ b. cond (true && b) (Some value) None) large
 
-  by_size : {E : Type 0} (r : Result ℕ E) → OkIff r ((0 < length word) × (value < 2 ^ 64)) value → (b : Bool) → nat_lt value (2 ^ 64) ≡ b → as-option r ≡ number_in word
+  by_size : {E : Type 0} (r : Result ℕ E) → OkIff r ((0 < length word) × (value < 2 ^ 64)) value
+      → (b : Bool) → nat_lt value (2 ^ 64) ≡ b → as-option r ≡ number_in word
   by_size (Ok n) is true e = ap Some is.1 ∙ sym (fitting e)
   by_size (Ok n) is false e = let large : 2 ^ 64 ≤ value = grind (arith, nat_tests) in absurd (omega (arith, large, is.0.1))
   by_size (Err x) is true e = let small : value < 2 ^ 64 = grind (arith, nat_tests) in absurd (is (some, small))

@@ -82,10 +82,12 @@ module _ (asked : Mode) (reports : List Event → List ℕ) (bytes : List ℕ) w
   model-answered d short some (Ok model) is zero = found-answered d model short some is (first_lists model) refl zero
 
   input-answered : AnsweredWhere (reply_to_input (task.Find asked) reports bytes)
-  input-answered = of_input (reply_to_tree (task.Find asked) reports) bytes AnsweredWhere (λ long zero. absurd (omega arith)) (λ short none zero. absurd (omega arith))
+  input-answered =
+      of_input (reply_to_tree (task.Find asked) reports) bytes AnsweredWhere (λ long zero. absurd (omega arith)) (λ short none zero. absurd (omega arith))
       (λ d short some. model-answered d short some (model_of_value d) refl)
 
-  pub reply-answered : (words : List (List ℕ)) → IsAskedFor asked words → (reply reports words bytes).status ≡ 0 → IsAnsweredBy asked reports bytes (reply reports words bytes).text
+  pub reply-answered : (words : List (List ℕ)) → IsAskedFor asked words
+      → (reply reports words bytes).status ≡ 0 → IsAnsweredBy asked reports bytes (reply reports words bytes).text
   reply-answered words is =
       let P : Option Request → Type 0 = λ o. AnsweredWhere (reply_in reports o bytes) in
       subst P (sym is) input-answered
@@ -115,5 +117,6 @@ done-replies asked reports model line now given None found same is = absurd cc
 done-replies asked reports model line now given (Some found) line_is same is =
     let e : line ≡ line_of_found model found = cc in record {
       status_is = ap status_number is.status_is;
-      text_is = is.text_is ∙ ap (λ text. with_reports asked text now) e ∙ same-reports asked (line_of_found model found) (reports found.outcome.events) now same;
+      text_is = is.text_is ∙ ap (λ text. with_reports asked text now) e
+          ∙ same-reports asked (line_of_found model found) (reports found.outcome.events) now same;
     }

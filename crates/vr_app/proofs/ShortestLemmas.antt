@@ -29,7 +29,8 @@ no_first x y b c h g = elim (or_cases (int_lt y x) _ g) [
   | inr rest ↦ clash x y h (and_left (int_le y x) c rest)
 ]
 
-both_rests : (x y : ℤ) (b c : Bool) → IsTrue (int_lt x y || (int_le x y && b)) → IsTrue (int_lt y x || (int_le y x && c)) → IsTrue (int_le x y && b) × IsTrue (int_le y x && c)
+both_rests : (x y : ℤ) (b c : Bool) → IsTrue (int_lt x y || (int_le x y && b))
+    → IsTrue (int_lt y x || (int_le y x && c)) → IsTrue (int_le x y && b) × IsTrue (int_le y x && c)
 both_rests x y b c h g = elim (or_cases (int_lt x y) _ h) [
   | inl less ↦ absurd (no_first x y b c less g)
   | inr rest ↦ elim (or_cases (int_lt y x) _ g) [
@@ -63,10 +64,12 @@ module _ (line : Defined) (none : line.breaks ≡ []) where
       let high = b.least.least p a.schedule in
       let same : span line q ≡ span line p = omega (arith, ints, low, high) in
       let cumuls : p.cumuls ≡ q.cumuls =
-      lex_both p.cumuls q.cumuls (a.schedule.cumul_of_each_stop ∙ sym b.schedule.cumul_of_each_stop) (a.first q b.schedule same) (b.first p a.schedule (sym same)) in
+      lex_both p.cumuls q.cumuls (a.schedule.cumul_of_each_stop ∙ sym b.schedule.cumul_of_each_stop)
+      (a.first q b.schedule same) (b.first p a.schedule (sym same)) in
       let breaks : p.breaks ≡ q.breaks =
       none_of p.breaks (a.schedule.start_of_each_break ∙ ap length none) ∙ sym (none_of q.breaks (b.schedule.start_of_each_break ∙ ap length none)) in
-      sym (plan_of-key both_sides line p a.schedule) ∙ (ap (plan_of_key line) (ap₂ (λ xs ys. xs ++ ys) cumuls breaks) ∙ plan_of-key both_sides line q b.schedule)
+      sym (plan_of-key both_sides line p a.schedule)
+      ∙ (ap (plan_of_key line) (ap₂ (λ xs ys. xs ++ ys) cumuls breaks) ∙ plan_of-key both_sides line q b.schedule)
 
   pub shortest_is : (plan : Wanted) → IsShortestSchedule line plan → shortest line ≡ Some plan
   shortest_is plan is = by (find_shortest line)
@@ -105,6 +108,8 @@ module _ (made : Line) (none : made.breaks ≡ []) (least : Least) where
         span_is = sym its;
       }
 
-  pub found_shortest : (found : Option Least) → found ≡ Some least → IfSome found (IsReachedSpan made) → IfSome found (IsLeastSpanOf made) → IfSome found (IsFirstPlan made) → IsShortestOf made least
+  pub found_shortest : (found : Option Least) → found ≡ Some least → IfSome found (IsReachedSpan made)
+      → IfSome found (IsLeastSpanOf made) → IfSome found (IsFirstPlan made) → IsShortestOf made least
   found_shortest found is reached is_least first =
-      least_shortest (subst (λ o. IfSome o (IsReachedSpan made)) is reached) (subst (λ o. IfSome o (IsLeastSpanOf made)) is is_least) (subst (λ o. IfSome o (IsFirstPlan made)) is first)
+      least_shortest (subst (λ o. IfSome o (IsReachedSpan made)) is reached)
+      (subst (λ o. IfSome o (IsLeastSpanOf made)) is is_least) (subst (λ o. IfSome o (IsFirstPlan made)) is first)

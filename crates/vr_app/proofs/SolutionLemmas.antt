@@ -41,7 +41,8 @@ use Rattle.vr_rules.specs.Placing.{lists_in}
 use Rattle.vr_rules.proofs.TotalLemmas.{sum-is_cost}
 
 -- routes of lists that are valid if they are there
-pub valid_in : (model : Model) (begun : Option (List (List ℕ))) → ((lists : List (List ℕ)) → begun ≡ Some lists → IsTrue (is_valid model lists)) → (first : Option Tours) → lists_in first ≡ begun
+pub valid_in : (model : Model) (begun : Option (List (List ℕ)))
+    → ((lists : List (List ℕ)) → begun ≡ Some lists → IsTrue (is_valid model lists)) → (first : Option Tours) → lists_in first ≡ begun
     → IfSome first (λ routes. IsTrue (is_valid model routes.lists))
 valid_in model begun valid None e = tt
 valid_in model begun valid (Some routes) e = valid routes.lists (sym e)
@@ -51,7 +52,8 @@ unfolding is_valid
 valid-open model lists h = and_left (is_open model lists) _ (and_right _ _ h)
 
 -- a line with a schedule has the one that a rule chooses
-chosen-of : (rule : ScheduleRule) (line : Line) → HasStops line → (plan : Plan) → IsSchedule line plan → IsChosenUnder rule line (unwrap_or (chosen_under rule line) no_plan)
+chosen-of : (rule : ScheduleRule) (line : Line) → HasStops line → (plan : Plan)
+    → IsSchedule line plan → IsChosenUnder rule line (unwrap_or (chosen_under rule line) no_plan)
 chosen-of rule line stops plan is = by (chosen_under rule line) refl ((chosen_under_where_feasible rule line stops).1 (plan, is))
   where
     by : (o : Option Plan) → chosen_under rule line ≡ o → IsTrue (is_some o) → IsChosenUnder rule line (unwrap_or o no_plan)
@@ -67,7 +69,8 @@ chosen-plans model lists valid d v low known used =
     (chosen-of rule (line model d v (route lists v)) stops _ meets)
 
 -- valid lists at their chosen schedules are a solution
-pub is-solution : (model : Model) (first lists : List (List ℕ)) → IsTrue (is_valid model lists) → cost model lists ≤ℤ cost model first → IsSolution model first (assigned model lists)
+pub is-solution : (model : Model) (first lists : List (List ℕ)) → IsTrue (is_valid model lists)
+    → cost model lists ≤ℤ cost model first → IsSolution model first (assigned model lists)
 is-solution model first lists valid no_dearer = record {
   valid = valid;
   plans = chosen_plans_are_there model lists;
@@ -96,7 +99,8 @@ answer-sound model first outcome is = record {
   in_limits = record { tries = is.tries; some_solution = is.some_solution; solutions = is.solutions };
 }
 
-pub improved-sound : (how : Improve) (model : Model) (first : List (List ℕ)) → IsWellFormed model → IsTrue (is_valid model first) → IsSound model first (improved how model first)
+pub improved-sound : (how : Improve) (model : Model) (first : List (List ℕ)) → IsWellFormed model
+    → IsTrue (is_valid model first) → IsSound model first (improved how model first)
 improved-sound improve.None model first well_formed valid = untried-sound model first well_formed valid
 improved-sound improve.GreedyDescent model first well_formed valid =
     answer-sound model first _ (descent_is_sound model first (limit_of model) valid well_formed.search_in_range.solutions_in_range.0)
@@ -107,7 +111,8 @@ improved-sound improve.TabuSearch model first well_formed valid =
 improved-sound improve.GuidedLocalSearch model first well_formed valid =
     answer-sound model first _ (guided_is_sound model first (limit_of model) (lambda_of model) valid well_formed.search_in_range.solutions_in_range.0)
 
-pub searched-sound : (asked : Mode) (model : Model) (first : List (List ℕ)) → IsWellFormed model → IsTrue (is_valid model first) → IsSound model first (searched asked model first)
+pub searched-sound : (asked : Mode) (model : Model) (first : List (List ℕ)) → IsWellFormed model
+    → IsTrue (is_valid model first) → IsSound model first (searched asked model first)
 searched-sound mode.First model first well_formed valid = untried-sound model first well_formed valid
 searched-sound mode.Solve model first well_formed valid = improved-sound model.search.improve model first well_formed valid
 searched-sound mode.Log model first well_formed valid = improved-sound model.search.improve model first well_formed valid
@@ -132,7 +137,8 @@ sound-printed model found well_formed valid sound begins e =
     }
 
 -- so is what is found from valid lists
-pub found-printed : (asked : Mode) (model : Model) (first : List (List ℕ)) → IsWellFormed model → IsTrue (is_valid model first) → (begins : List (List ℕ) → Type 0) → begins first
+pub found-printed : (asked : Mode) (model : Model) (first : List (List ℕ)) → IsWellFormed model
+    → IsTrue (is_valid model first) → (begins : List (List ℕ) → Type 0) → begins first
     → PrintsBegun begins model (line_of_found model (found_from asked model first))
 found-printed asked model first well_formed valid begins e =
     sound-printed model (found_from asked model first) well_formed valid (searched-sound asked model first well_formed valid) begins e
@@ -142,7 +148,8 @@ abbrev pub summary_with : ℕ → ℤ → ℤ → ℕ → ℕ → ℕ → Summar
 summary_with n total first dropped busy tries = record { number = n; cost = total; first_cost = first; dropped = dropped; used = busy; tries = tries }
 
 -- it is that of what was found, where each number is
-pub summary-is : (n : ℕ) (model : Model) (found : Found) (total first : ℤ) (dropped busy tries : ℕ) → total ≡ cost model found.outcome.best → first ≡ cost model found.first
+pub summary-is : (n : ℕ) (model : Model) (found : Found) (total first : ℤ) (dropped busy tries : ℕ)
+    → total ≡ cost model found.outcome.best → first ≡ cost model found.first
     → dropped ≡ length (inactive model found.outcome.best) → busy ≡ used found.outcome.best → tries ≡ found.outcome.report.tries
     → summary_with n total first dropped busy tries ≡ summary_of n model found
 summary-is n model found total first dropped busy tries a b c d e =

@@ -68,7 +68,8 @@ module _ (s : Status) (n : ℕ) (e : status_number s ≡ n) where
   asks_nothing k None h = refl
   asks_nothing k (Some (request.Read (task.Find mode))) h = absurd (no_1_solving k h)
   asks_nothing k (Some (request.Read (task.Ask question))) h = absurd (no_1_checking k h)
-  asks_nothing k (Some (request.Import vehicles)) h = absurd (no_file (λ m. elim m [ inl a ↦ omega (arith, a, k) | inr (inl a) ↦ omega (arith, a, k) | inr (inr a) ↦ omega (arith, a, k) ]) h)
+  asks_nothing k (Some (request.Import vehicles)) h =
+      absurd (no_file (λ m. elim m [ inl a ↦ omega (arith, a, k) | inr (inl a) ↦ omega (arith, a, k) | inr (inr a) ↦ omega (arith, a, k) ]) h)
   asks_nothing k (Some (request.Generate number)) h = absurd (no_other all.Done h (λ m. omega (arith, m, k)))
   asks_nothing k (Some (request.Demo number)) h = absurd (no_other all.Done h (λ m. omega (arith, m, k)))
 
@@ -76,7 +77,8 @@ module _ (s : Status) (n : ℕ) (e : status_number s ≡ n) where
   asks_solution k None h = absurd (no_other all.Usage h (λ m. omega (arith, m, k)))
   asks_solution k (Some (request.Read (task.Find mode))) h = (mode, refl)
   asks_solution k (Some (request.Read (task.Ask question))) h = absurd (no_6_checking k h)
-  asks_solution k (Some (request.Import vehicles)) h = absurd (no_file (λ m. elim m [ inl a ↦ omega (arith, a, k) | inr (inl a) ↦ omega (arith, a, k) | inr (inr a) ↦ omega (arith, a, k) ]) h)
+  asks_solution k (Some (request.Import vehicles)) h =
+      absurd (no_file (λ m. elim m [ inl a ↦ omega (arith, a, k) | inr (inl a) ↦ omega (arith, a, k) | inr (inr a) ↦ omega (arith, a, k) ]) h)
   asks_solution k (Some (request.Generate number)) h = absurd (no_other all.Done h (λ m. omega (arith, m, k)))
   asks_solution k (Some (request.Demo number)) h = absurd (no_other all.Done h (λ m. omega (arith, m, k)))
 
@@ -84,14 +86,16 @@ module _ (s : Status) (n : ℕ) (e : status_number s ≡ n) where
   asks_question k None h = absurd (no_other all.Usage h (λ m. omega (arith, m, k)))
   asks_question k (Some (request.Read (task.Find mode))) h = absurd (no_9_solving k h)
   asks_question k (Some (request.Read (task.Ask question))) h = (question, refl)
-  asks_question k (Some (request.Import vehicles)) h = absurd (no_file (λ m. elim m [ inl a ↦ omega (arith, a, k) | inr (inl a) ↦ omega (arith, a, k) | inr (inr a) ↦ omega (arith, a, k) ]) h)
+  asks_question k (Some (request.Import vehicles)) h =
+      absurd (no_file (λ m. elim m [ inl a ↦ omega (arith, a, k) | inr (inl a) ↦ omega (arith, a, k) | inr (inr a) ↦ omega (arith, a, k) ]) h)
   asks_question k (Some (request.Generate number)) h = absurd (no_other all.Done h (λ m. omega (arith, m, k)))
   asks_question k (Some (request.Demo number)) h = absurd (no_other all.Done h (λ m. omega (arith, m, k)))
 
   asks_json : n ≡ 4 → (o : Option Request) → IsOfRequest o s → reads_json o ≡ true
   asks_json k None h = absurd (no_other all.Usage h (λ m. omega (arith, m, k)))
   asks_json k (Some (request.Read it)) h = refl
-  asks_json k (Some (request.Import vehicles)) h = absurd (no_file (λ m. elim m [ inl a ↦ omega (arith, a, k) | inr (inl a) ↦ omega (arith, a, k) | inr (inr a) ↦ omega (arith, a, k) ]) h)
+  asks_json k (Some (request.Import vehicles)) h =
+      absurd (no_file (λ m. elim m [ inl a ↦ omega (arith, a, k) | inr (inl a) ↦ omega (arith, a, k) | inr (inr a) ↦ omega (arith, a, k) ]) h)
   asks_json k (Some (request.Generate number)) h = absurd (no_other all.Done h (λ m. omega (arith, m, k)))
   asks_json k (Some (request.Demo number)) h = absurd (no_other all.Done h (λ m. omega (arith, m, k)))
 

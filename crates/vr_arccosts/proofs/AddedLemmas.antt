@@ -1,5 +1,6 @@
 -- What moves that are told alone add, as code works it out: by the pieces that come between places of lists.
-use Rattle.std.proofs.Common.{◌≡◌, ◌∙◌, ℕ, ◌+◌, ◌-◌, ◌<◌, ◌≤◌, true, false, List, [], ◌∷◌, ◌++◌, length, reverse, take, drop, w64, to_z, of_z, refl, ap, ap₂, arith}
+use Rattle.std.proofs.Common.{◌≡◌, ◌∙◌, ℕ, ◌+◌, ◌-◌, ◌<◌, ◌≤◌, true, false, List, [], ◌∷◌, ◌++◌, length, reverse, take, drop, w64, to_z, of_z, refl, ap, ap₂}
+use Rattle.std.proofs.Common.{arith}
 use Rattle.std.proofs.lemmas.Int.{ints}
 use Rattle.std.specs.Prelude.{ℤ, ◌+ℤ◌, slice_index, slice_range, slice_set}
 use Rattle.vr_model.specs.moves.MoveTests.{is_move}
@@ -48,9 +49,11 @@ module _ (model : Model) (lists : List (List ℕ)) where
       ap (λ l. costs_more model lists v (with_between list a (a + 2) (l ++ []))) (turned-two list a facts.other_place)
       ∙ ap₂ (λ b n. costs_more model lists v (with_between list a b (y ∷ (take n (drop (a + 1) list) ++ x ∷ [])))) behind none
       ∙ ap (costs_more model lists v) (swapped-list list a (a + 1) y x (omega arith) facts.other_place)
-      ∙ one-list model lists (Exchange v a v (a + 1)) v (slice_set (slice_set list a y) (a + 1) x) facts.vehicle (exchanged_within lists v v a (a + 1) y x refl facts.vehicle)
+      ∙ one-list model lists (Exchange v a v (a + 1)) v (slice_set (slice_set list a y) (a + 1) x)
+      facts.vehicle (exchanged_within lists v v a (a + 1) y x refl facts.vehicle)
 
-  pub crossed-adds : (v a w b : ℕ) {his mine : Piece} {x y : ℤ} → is_move model lists (Cross v a w b) ≡ true → his ≡ Chain w 0 b false → mine ≡ Chain v 0 a false
+  pub crossed-adds : (v a w b : ℕ) {his mine : Piece} {x y : ℤ}
+      → is_move model lists (Cross v a w b) ≡ true → his ≡ Chain w 0 b false → mine ≡ Chain v 0 a false
       → x ≡ added v 0 a (his ∷ []) → y ≡ added w 0 b (mine ∷ []) → x +ℤ y ≡ arcs_added model lists (Cross v a w b)
   crossed-adds v a w b one his-is mine-is got left =
       let list : List ℕ = route lists v in

@@ -46,7 +46,8 @@ path-turned cost x [] = refl
 path-turned cost x (y ∷ ys) =
     let i = path-turned cost y ys in
     let t = chain-two cost (reverse ys) y x in
-    let r : chain_sum cost (reverse (y ∷ ys) ++ x ∷ []) ≡ chain_sum cost ((reverse ys ++ y ∷ []) ++ x ∷ []) = ap (λ l. chain_sum cost (l ++ x ∷ [])) (reverse-append (y ∷ []) ys) in
+    let r : chain_sum cost (reverse (y ∷ ys) ++ x ∷ []) ≡ chain_sum cost ((reverse ys ++ y ∷ []) ++ x ∷ []) = ap (λ l. chain_sum cost (l ++ x ∷ []))
+    (reverse-append (y ∷ []) ys) in
     omega (arith, ints, i, t, r)
 
 pub chain-turned : (cost : ℕ → ℕ → ℤ) (xs : List ℕ) → chain_sum (turned true cost) xs ≡ chain_sum cost (reverse xs)
@@ -67,7 +68,8 @@ pub record AreCosts (n : ℕ) (cost : ℕ → ℕ → ℤ) : Type 0 where
 pub rest-below : (P : ℕ → Type 0) (x : ℕ) (xs : List ℕ) → All P (x ∷ xs) → All P xs
 rest-below P x xs h k d low = h (suc k) d (omega (arith, low))
 
-pub path-bounds : (n : ℕ) (cost : ℕ → ℕ → ℤ) → AreCosts n cost → (at : ℕ) (xs : List ℕ) → at < n → All (λ node. node < n) xs → IsUpTo (length xs) (path_sum cost at xs)
+pub path-bounds : (n : ℕ) (cost : ℕ → ℕ → ℤ) → AreCosts n cost → (at : ℕ) (xs : List ℕ)
+    → at < n → All (λ node. node < n) xs → IsUpTo (length xs) (path_sum cost at xs)
 path-bounds n cost h at [] here all = record { low = omega (arith, ints); high = omega (arith, ints) }
 path-bounds n cost h at (x ∷ xs) here all =
     let next : x < n = all 0 0 (omega arith) in
@@ -84,7 +86,8 @@ pub last-below : (P : ℕ → Type 0) (at : ℕ) (xs : List ℕ) → P at → Al
 last-below P at [] here all = here
 last-below P at (x ∷ xs) here all = last-below P x xs (all 0 0 (omega arith)) (rest-below P x xs all)
 
-pub costs-of : (model : Model) → IsWellFormed model → (v : ℕ) → v < length model.vehicles → (back : Bool) → AreCosts model.nodes (turned back (arc_cost model v))
+pub costs-of : (model : Model) → IsWellFormed model → (v : ℕ) → v < length model.vehicles
+    → (back : Bool) → AreCosts model.nodes (turned back (arc_cost model v))
 costs-of model well v known false = record {
   low = λ i j low next. (arc_cost_in_range model well v i j known low next).at_least;
   high = λ i j low next. (arc_cost_in_range model well v i j known low next).at_most;
@@ -120,11 +123,13 @@ chain-next cost list (suc k) some low =
     rw (e, f) (chain-more cost list k low)
 
 -- the costs along 1000 nodes at most
-pub up-to-few : (model : Model) → IsWellFormed model → (v : ℕ) → v < length model.vehicles → (back : Bool) (xs : List ℕ) → length xs ≤ 1000 → All (λ node. node < model.nodes) xs → IsUpTo 1000 (chain_sum (turned back (arc_cost model v)) xs)
+pub up-to-few : (model : Model) → IsWellFormed model → (v : ℕ) → v < length model.vehicles → (back : Bool) (xs : List ℕ)
+    → length xs ≤ 1000 → All (λ node. node < model.nodes) xs → IsUpTo 1000 (chain_sum (turned back (arc_cost model v)) xs)
 up-to-few model well v known back xs few all =
     let b = chain-bounds model.nodes (turned back (arc_cost model v)) (costs-of model well v known back) xs all in
     record { low = b.low; high = omega (arith, ints, few, b.high) }
 
 -- vehicles with the same costs
-pub same-costs : (model : Model) (v w : ℕ) (back : Bool) (xs : List ℕ) → (vehicle_at model v).costs ≡ (vehicle_at model w).costs → chain_sum (turned back (arc_cost model w)) xs ≡ chain_sum (turned back (arc_cost model v)) xs
+pub same-costs : (model : Model) (v w : ℕ) (back : Bool) (xs : List ℕ) → (vehicle_at model v).costs ≡ (vehicle_at model w).costs
+    → chain_sum (turned back (arc_cost model w)) xs ≡ chain_sum (turned back (arc_cost model v)) xs
 same-costs model v w back xs e = ap (λ m. chain_sum (turned back (entry model m)) xs) (sym e)

@@ -22,7 +22,8 @@ front-path : (cost : ℕ → ℕ → ℤ) (at : ℕ) (list : List ℕ) (b : ℕ)
     → path_sum cost at (take b list) ≡ cost at (slice_index_or list 0 0) +ℤ chain_sum cost (take b list)
 front-path cost at list b some low =
     let long = length-take-le b list low in
-    path-first cost at (take b list) (omega (arith, long, some)) ∙ ap (λ n. cost at n +ℤ chain_sum cost (take b list)) (get_or-take b list 0 0 (omega (arith, some)))
+    path-first cost at (take b list) (omega (arith, long, some))
+    ∙ ap (λ n. cost at n +ℤ chain_sum cost (take b list)) (get_or-take b list 0 0 (omega (arith, some)))
 
 module _ (model : Model) (v w : ℕ) (same : (i j : ℕ) → arc_cost model w i j ≡ arc_cost model v i j) where
   chain-same : (xs : List ℕ) → chain_sum (arc_cost model w) xs ≡ chain_sum (arc_cost model v) xs
@@ -36,12 +37,14 @@ module _ (model : Model) (v w : ℕ) (same : (i j : ℕ) → arc_cost model w i 
   -- what the front of a list costs the other vehicle
   pub front-cost : (at : ℕ) (list : List ℕ) (a : ℕ) → 1 ≤ a → a ≤ length list
       → path_sum (arc_cost model w) at (take a list) ≡ arc_cost model w at (slice_index_or list 0 0) +ℤ chain_sum (arc_cost model v) (take a list)
-  front-cost at list a some low = front-path (arc_cost model w) at list a some low ∙ ap (λ c. arc_cost model w at (slice_index_or list 0 0) +ℤ c) (chain-same (take a list))
+  front-cost at list a some low = front-path (arc_cost model w) at list a some low
+      ∙ ap (λ c. arc_cost model w at (slice_index_or list 0 0) +ℤ c) (chain-same (take a list))
 
   -- the front that the other vehicle gets, and the arc behind it
   front-between : (list other : List ℕ) (a b : ℕ) → 1 ≤ a → a ≤ length list
       → between_cost model w other 0 b (take a list)
-      ≡ path_sum (arc_cost model w) (vehicle_at model w).start (take a list) +ℤ arc_cost model w (last_of (vehicle_at model w).start (take a list)) (at_place model w other b)
+      ≡ path_sum (arc_cost model w) (vehicle_at model w).start (take a list)
+      +ℤ arc_cost model w (last_of (vehicle_at model w).start (take a list)) (at_place model w other b)
   front-between list other a b one within =
       let long = length-take-le a list within in
       between-used model w other 0 b (take a list) (omega (arith, long, one))
@@ -114,7 +117,8 @@ module _ (model : Model) (lists : List (List ℕ)) where
 
   pub cross-no-less : (v a w b : ℕ) (bound base : ℤ) → ((i j : ℕ) → arc_cost model w i j ≡ arc_cost model v i j) → 1 ≤ a → 1 ≤ b
       → base ≡ cross_base model v (route lists v) w (route lists w) a
-      → bound ≤ℤ (base +ℤ gap_added model w (route lists w) (at_place model v (route lists v) a) (last_of (vehicle_at model w).start (take a (route lists v))) b)
+      → bound
+      ≤ℤ (base +ℤ gap_added model w (route lists w) (at_place model v (route lists v) a) (last_of (vehicle_at model w).start (take a (route lists v))) b)
       → AddsNoLess model lists (Cross v a w b) bound
   cross-no-less v a w b bound base same first some is low one =
       let list : List ℕ = route lists v in
@@ -123,13 +127,15 @@ module _ (model : Model) (lists : List (List ℕ)) where
       let both = cross-between model v w same list other a b first facts.gap some facts.other_gap in
       let mine = cost-between model v list (take b other) 0 a (omega arith) facts.gap in
       let his = cost-between model w other (take a list) 0 b (omega arith) facts.other_gap in
-      let added = two-lists model lists (Cross v a w b) v w (take b other ++ drop a list) (take a list ++ drop b other) facts.vehicle facts.other facts.apart refl in
+      let added = two-lists model lists (Cross v a w b) v w (take b other ++ drop a list)
+      (take a list ++ drop b other) facts.vehicle facts.other facts.apart refl in
       omega (arith, ints, both, mine, his, added, is, low)
 
   -- the front of either length
   pub fronts-no-less : (v a w b : ℕ) (bound base : ℤ) → ((i j : ℕ) → arc_cost model w i j ≡ arc_cost model v i j) → 1 ≤ b → (a ≡ 0 → b < length (route lists w))
       → base ≡ cross_base model v (route lists v) w (route lists w) a
-      → bound ≤ℤ (base +ℤ gap_added model w (route lists w) (at_place model v (route lists v) a) (last_of (vehicle_at model w).start (take a (route lists v))) b)
+      → bound
+      ≤ℤ (base +ℤ gap_added model w (route lists w) (at_place model v (route lists v) a) (last_of (vehicle_at model w).start (take a (route lists v))) b)
       → AddsNoLess model lists (Cross v a w b) bound
   fronts-no-less v zero w b bound base same some left is low = first-no-less v w b bound base same some (left refl) is low
   fronts-no-less v (suc a) w b bound base same some left is low = cross-no-less v (suc a) w b bound base same (omega arith) some is low
@@ -152,7 +158,8 @@ module _ (model : Model) where
 
   pub front-left : (w : ℕ) (list other : List ℕ) (a b : ℕ) → a ≤ length list → b ≤ length other → (a ≡ 0 → b < length other)
       → between_cost model w other 0 b (take a list)
-      ≡ path_sum (arc_cost model w) (vehicle_at model w).start (take a list) +ℤ arc_cost model w (last_of (vehicle_at model w).start (take a list)) (at_place model w other b)
+      ≡ path_sum (arc_cost model w) (vehicle_at model w).start (take a list)
+      +ℤ arc_cost model w (last_of (vehicle_at model w).start (take a list)) (at_place model w other b)
   front-left w list other zero b within low some =
       let less = some refl in
       let is = bare model w other 0 b (omega arith) low (omega (arith, less)) in
@@ -163,20 +170,24 @@ module _ (model : Model) where
 
   pub front-gone : (w : ℕ) (list other : List ℕ) (a b : ℕ) → a ≡ 0 → b ≡ length other → between_cost model w other 0 b (take a list) ≡ pos 0
   front-gone w list other a b none all =
-      let x : ℤ = path_sum (arc_cost model w) (before_place model w other 0) [] +ℤ arc_cost model w (last_of (before_place model w other 0) []) (at_place model w other b) in
+      let x : ℤ = path_sum (arc_cost model w) (before_place model w other 0) []
+      +ℤ arc_cost model w (last_of (before_place model w other 0) []) (at_place model w other b) in
       ap (λ n. between_cost model w other 0 b (take n list)) none
       ∙ ap (λ e. cond e (pos 0) x) (ap is_empty (drop_all b other (omega (arith, all))))
 
   pub front-sum : (w : ℕ) (list : List ℕ) (a : ℕ) → 1 ≤ a → a ≤ length list
-      → path_sum (arc_cost model w) (vehicle_at model w).start (take a list) ≡ arc_cost model w (vehicle_at model w).start (slice_index_or list 0 0) +ℤ chain_sum (arc_cost model w) (take a list)
+      → path_sum (arc_cost model w) (vehicle_at model w).start (take a list)
+      ≡ arc_cost model w (vehicle_at model w).start (slice_index_or list 0 0) +ℤ chain_sum (arc_cost model w) (take a list)
   front-sum w list a some low = front-path (arc_cost model w) (vehicle_at model w).start list a some low
 
-  pub fronts-told : (lists : List (List ℕ)) (v a w b : ℕ) (bound : ℤ) → bound ≤ℤ fronts_added model v (route lists v) w (route lists w) a b → AddsNoLess model lists (Cross v a w b) bound
+  pub fronts-told : (lists : List (List ℕ)) (v a w b : ℕ) (bound : ℤ)
+      → bound ≤ℤ fronts_added model v (route lists v) w (route lists w) a b → AddsNoLess model lists (Cross v a w b) bound
   fronts-told lists v a w b bound low one =
       let list : List ℕ = route lists v in
       let other : List ℕ = route lists w in
       let facts = of_cross model lists v a w b one in
       let mine = cost-between model v list (take b other) 0 a (omega arith) facts.gap in
       let his = cost-between model w other (take a list) 0 b (omega arith) facts.other_gap in
-      let added = two-lists model lists (Cross v a w b) v w (take b other ++ drop a list) (take a list ++ drop b other) facts.vehicle facts.other facts.apart refl in
+      let added = two-lists model lists (Cross v a w b) v w (take b other ++ drop a list)
+      (take a list ++ drop b other) facts.vehicle facts.other facts.apart refl in
       omega (arith, ints, mine, his, added, low)

@@ -1,5 +1,6 @@
 -- What moves add to arc costs, by the stretches of lists that they change.
-use Rattle.std.proofs.Common.{◌≡◌, ◌≢◌, ◌∙◌, ℕ, suc, ◌+◌, ◌<◌, ◌≤◌, Bool, true, false, List, [], ◌∷◌, ◌++◌, length, reverse, take, drop, sym, ap, subst, arith, add-one, append_assoc, append-nil, length-set}
+use Rattle.std.proofs.Common.{◌≡◌, ◌≢◌, ◌∙◌, ℕ, suc, ◌+◌, ◌<◌, ◌≤◌, Bool, true, false, List, [], ◌∷◌, ◌++◌, length, reverse, take, drop, sym, ap, subst, arith}
+use Rattle.std.proofs.Common.{add-one, append_assoc, append-nil, length-set}
 use Rattle.std.proofs.lemmas.Int.{ints}
 use Rattle.std.specs.Prelude.{◌+ℤ◌, slice_index_or, slice_range, slice_set, remove, All}
 use Rattle.std.proofs.lemmas.List.Elements.{All-append, All-cons, All-nil}
@@ -40,24 +41,28 @@ known-within : (model : Model) (lists : List (List ℕ)) (piece : Piece) → IsK
 known-within model lists (Chain v f t back) known = known
 known-within model lists (Node node) known = tt
 
-known-nodes : (model : Model) (lists : List (List ℕ)) → ((v : ℕ) → All (λ node. node < model.nodes) (route lists v)) → (piece : Piece) → IsKnownPiece model lists piece → All (λ node. node < model.nodes) (nodes_of lists piece)
+known-nodes : (model : Model) (lists : List (List ℕ)) → ((v : ℕ) → All (λ node. node < model.nodes) (route lists v))
+    → (piece : Piece) → IsKnownPiece model lists piece → All (λ node. node < model.nodes) (nodes_of lists piece)
 known-nodes model lists below (Chain v f t back) known = chain-all (λ node. node < model.nodes) lists v f t back known.1 (below v)
 known-nodes model lists below (Node node) known = All-cons (λ node. node < model.nodes) node [] known (All-nil (λ node. node < model.nodes))
 
 pub pieces-within : (model : Model) (lists : List (List ℕ)) (pieces : List Piece) → All (IsKnownPiece model lists) pieces → All (IsWithin lists) pieces
 pieces-within model lists pieces h k d low = known-within model lists (slice_index_or pieces k d) (h k d low)
 
-pub pieces-below : (model : Model) (lists : List (List ℕ)) → ((v : ℕ) → All (λ node. node < model.nodes) (route lists v)) → (pieces : List Piece) → All (IsKnownPiece model lists) pieces → All (λ node. node < model.nodes) (joined lists pieces)
+pub pieces-below : (model : Model) (lists : List (List ℕ)) → ((v : ℕ) → All (λ node. node < model.nodes) (route lists v))
+    → (pieces : List Piece) → All (IsKnownPiece model lists) pieces → All (λ node. node < model.nodes) (joined lists pieces)
 pieces-below model lists below [] h = All-nil (λ node. node < model.nodes)
 pieces-below model lists below (piece ∷ pieces) h =
     All-append (λ node. node < model.nodes) (nodes_of lists piece) (joined lists pieces) (known-nodes model lists below piece (h 0 piece (omega arith)))
     (pieces-below model lists below pieces (λ k d low. h (suc k) d (omega (arith, low))))
 
-one-known : (model : Model) (lists : List (List ℕ)) (piece : Piece) → IsWithin lists piece → All (λ node. node < model.nodes) (nodes_of lists piece) → IsKnownPiece model lists piece
+one-known : (model : Model) (lists : List (List ℕ)) (piece : Piece) → IsWithin lists piece
+    → All (λ node. node < model.nodes) (nodes_of lists piece) → IsKnownPiece model lists piece
 one-known model lists (Chain v f t back) within nodes = within
 one-known model lists (Node node) within nodes = nodes 0 0 (omega arith)
 
-pub pieces-known : (model : Model) (lists : List (List ℕ)) (pieces : List Piece) → All (IsWithin lists) pieces → All (λ node. node < model.nodes) (joined lists pieces) → All (IsKnownPiece model lists) pieces
+pub pieces-known : (model : Model) (lists : List (List ℕ)) (pieces : List Piece) → All (IsWithin lists) pieces
+    → All (λ node. node < model.nodes) (joined lists pieces) → All (IsKnownPiece model lists) pieces
 pieces-known model lists pieces within nodes k d low =
     one-known model lists (slice_index_or pieces k d) (within k d low) (all_at (λ node. node < model.nodes) lists pieces k d low nodes)
 

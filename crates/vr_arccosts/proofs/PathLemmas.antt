@@ -21,7 +21,8 @@ as-path model v at (x ∷ xs) = ap (λ s. arc_cost model v at x +ℤ s) (as-path
 
 -- the cost of a route with visits: of the path through them, and of the arc to its end
 pub route-used : (model : Model) (v : ℕ) (xs : List ℕ) → 0 < length xs
-    → route_cost model v xs ≡ path_sum (arc_cost model v) (vehicle_at model v).start xs +ℤ arc_cost model v (last_of (vehicle_at model v).start xs) (vehicle_at model v).end
+    → route_cost model v xs
+    ≡ path_sum (arc_cost model v) (vehicle_at model v).start xs +ℤ arc_cost model v (last_of (vehicle_at model v).start xs) (vehicle_at model v).end
 route-used model v [] some = absurd (omega (arith, some))
 route-used model v (x ∷ xs) some =
     let s = as-path model v (vehicle_at model v).start ((x ∷ xs) ++ (vehicle_at model v).end ∷ []) in
@@ -73,14 +74,16 @@ module _ (model : Model) (v : ℕ) where
       let t = step behind (last_of (last_of start front) nodes) in
       omega (arith, ints, u, p, q, l, t)
     where
-      step : (xs : List ℕ) (at : ℕ) → path_sum (arc_cost model v) at xs +ℤ arc_cost model v (last_of at xs) end ≡ arc_cost model v at (first_node_or xs end) +ℤ tail_cost (arc_cost model v) xs end
+      step : (xs : List ℕ) (at : ℕ) → path_sum (arc_cost model v) at xs +ℤ arc_cost model v (last_of at xs) end
+          ≡ arc_cost model v at (first_node_or xs end) +ℤ tail_cost (arc_cost model v) xs end
       step [] at = omega (arith, ints)
       step (x ∷ xs) at = omega (arith, ints)
 
   -- what the arcs between both ends cost, and what those along the ends cost
   apart : (front nodes behind : List ℕ)
       → route_cost model v (front ++ (nodes ++ behind))
-      ≡ cond (is_empty (front ++ (nodes ++ behind))) (pos 0) (path_sum (arc_cost model v) (last_of start front) nodes +ℤ arc_cost model v (last_of (last_of start front) nodes) (first_node_or behind end))
+      ≡ cond (is_empty (front ++ (nodes ++ behind))) (pos 0)
+      (path_sum (arc_cost model v) (last_of start front) nodes +ℤ arc_cost model v (last_of (last_of start front) nodes) (first_node_or behind end))
       +ℤ (path_sum (arc_cost model v) start front +ℤ tail_cost (arc_cost model v) behind end)
   apart [] [] [] = refl
   apart [] [] (x ∷ xs) = used-apart [] [] (x ∷ xs) (omega arith)
@@ -89,7 +92,8 @@ module _ (model : Model) (v : ℕ) where
 
   -- other nodes between two places of a list change its cost by what they change between the stops there
   pub cost-between : (list nodes : List ℕ) (f b : ℕ) → f ≤ b → b ≤ length list
-      → route_cost model v (take f list ++ (nodes ++ drop b list)) -ℤ route_cost model v list ≡ between_cost model v list f b nodes -ℤ between_cost model v list f b (slice_range list f b)
+      → route_cost model v (take f list ++ (nodes ++ drop b list)) -ℤ route_cost model v list
+      ≡ between_cost model v list f b nodes -ℤ between_cost model v list f b (slice_range list f b)
   cost-between list nodes f b order high =
       let new = apart (take f list) nodes (drop b list) in
       let old = apart (take f list) (slice_range list f b) (drop b list) in
@@ -99,18 +103,22 @@ module _ (model : Model) (v : ℕ) where
   -- what the arcs between two places of a list cost
   pub stretch-unused : (list : List ℕ) (f b : ℕ) → f ≤ b → length list ≡ 0 → between_cost model v list f b (slice_range list f b) ≡ pos 0
   stretch-unused list f b order none =
-      let x : ℤ = path_sum (arc_cost model v) (last_of start (take f list)) (slice_range list f b) +ℤ arc_cost model v (last_of (last_of start (take f list)) (slice_range list f b)) (first_node_or (drop b list) end) in
+      let x : ℤ = path_sum (arc_cost model v) (last_of start (take f list)) (slice_range list f b)
+      +ℤ arc_cost model v (last_of (last_of start (take f list)) (slice_range list f b)) (first_node_or (drop b list) end) in
       ap (λ e. cond e (pos 0) x) (ap is_empty (whole-apart list f b order) ∙ empty-where list none)
 
   pub stretch-used : (list : List ℕ) (f b : ℕ) → f ≤ b → 0 < length list
       → between_cost model v list f b (slice_range list f b)
-      ≡ path_sum (arc_cost model v) (last_of start (take f list)) (slice_range list f b) +ℤ arc_cost model v (last_of (last_of start (take f list)) (slice_range list f b)) (first_node_or (drop b list) end)
+      ≡ path_sum (arc_cost model v) (last_of start (take f list)) (slice_range list f b)
+      +ℤ arc_cost model v (last_of (last_of start (take f list)) (slice_range list f b)) (first_node_or (drop b list) end)
   stretch-used list f b order some =
-      let x : ℤ = path_sum (arc_cost model v) (last_of start (take f list)) (slice_range list f b) +ℤ arc_cost model v (last_of (last_of start (take f list)) (slice_range list f b)) (first_node_or (drop b list) end) in
+      let x : ℤ = path_sum (arc_cost model v) (last_of start (take f list)) (slice_range list f b)
+      +ℤ arc_cost model v (last_of (last_of start (take f list)) (slice_range list f b)) (first_node_or (drop b list) end) in
       ap (λ e. cond e (pos 0) x) (ap is_empty (whole-apart list f b order) ∙ some-where list (λ e. absurd (omega (arith, some, e))))
 
 -- how many nodes such a list has
-pub many-apart : (list nodes : List ℕ) (f b : ℕ) → f ≤ b → b ≤ length list → length (take f list ++ (nodes ++ drop b list)) ≡ f + length nodes + (length list - b)
+pub many-apart : (list nodes : List ℕ) (f b : ℕ) → f ≤ b → b ≤ length list
+    → length (take f list ++ (nodes ++ drop b list)) ≡ f + length nodes + (length list - b)
 many-apart list nodes f b order high =
     let a = length-append (take f list) (nodes ++ drop b list) in
     let c = length-append nodes (drop b list) in

@@ -39,7 +39,8 @@ module _ (list : List ℕ) (f t : ℕ) (order : f < t) (within : t ≤ length li
       last-at at (slice_range list f t) k e ∙ last k refl
   chain-last true at = last-reversed at (slice_range list f t) some ∙ first
 
-pub chain-costs : (cost : ℕ → ℕ → ℤ) (list : List ℕ) (f t : ℕ) (back : Bool) → chain_sum (turned back cost) (slice_range list f t) ≡ chain_sum cost (chain_of back list f t)
+pub chain-costs : (cost : ℕ → ℕ → ℤ) (list : List ℕ) (f t : ℕ) (back : Bool)
+    → chain_sum (turned back cost) (slice_range list f t) ≡ chain_sum cost (chain_of back list f t)
 chain-costs cost list f t false = refl
 chain-costs cost list f t true = chain-turned cost (slice_range list f t)
 

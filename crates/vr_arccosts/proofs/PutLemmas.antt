@@ -1,5 +1,6 @@
 -- What a visit or a pair that is put into a list adds, by the gaps that it takes.
-use Rattle.std.proofs.Common.{◌≡◌, ◌≢◌, ◌∙◌, ℕ, suc, ◌+◌, ◌-◌, ◌<◌, ◌≤◌, false, List, [], ◌∷◌, ◌++◌, length, take, drop, refl, sym, ap, ap₂, arith, add-one, append_assoc, append-nil}
+use Rattle.std.proofs.Common.{◌≡◌, ◌≢◌, ◌∙◌, ℕ, suc, ◌+◌, ◌-◌, ◌<◌, ◌≤◌, false, List, [], ◌∷◌, ◌++◌, length, take, drop, refl, sym, ap, ap₂, arith, add-one}
+use Rattle.std.proofs.Common.{append_assoc, append-nil}
 use Rattle.std.specs.Prelude.{ℤ, pos, ◌+ℤ◌, ◌≤ℤ◌, slice_range, slice_index_or, insert}
 use Rattle.std.proofs.lemmas.Int.{ints}
 use Rattle.vr_model.specs.moves.Moves.{apply, with_pair, with_route}
@@ -33,7 +34,8 @@ module _ (model : Model) (v : ℕ) (list : List ℕ) (pair : Pair) where
   pair-together s low =
       let nodes : List ℕ = pair.pickup ∷ (pair.delivery ∷ []) in
       let none : s - s ≡ 0 = omega arith in
-      let same : with_pair pair s s list ≡ with_between list s s nodes = ap (λ n. take s list ++ (pair.pickup ∷ (take n (drop s list) ++ (pair.delivery ∷ drop s list)))) none in
+      let same : with_pair pair s s list ≡ with_between list s s nodes =
+      ap (λ n. take s list ++ (pair.pickup ∷ (take n (drop s list) ++ (pair.delivery ∷ drop s list)))) none in
       let is = ap (route_cost model v) same in
       let change = cost-between model v list nodes s s (omega arith) low in
       let used = between-used model v list s s nodes (omega arith) in
@@ -82,7 +84,8 @@ module _ (model : Model) (lists : List (List ℕ)) where
       omega (arith, ints, low, gap, is)
 
   -- a pair that is put into a list
-  pub pair-no-less : (p w s t : ℕ) (bound : ℤ) → bound ≤ℤ (pos 0 +ℤ pair_added model w (route lists w) (pair_at model p) s t) → AddsNoLess model lists (PairActive p w s t) bound
+  pub pair-no-less : (p w s t : ℕ) (bound : ℤ) → bound ≤ℤ (pos 0 +ℤ pair_added model w (route lists w) (pair_at model p) s t)
+      → AddsNoLess model lists (PairActive p w s t) bound
   pair-no-less p w s t bound low one =
       let facts = of_pair_active model lists p w s t one in
       let is = one-list model lists (PairActive p w s t) w (with_pair (pair_at model p) s t (route lists w)) facts.vehicle refl in
@@ -113,7 +116,8 @@ without-pair-list list lo hi =
     ∙ ap (λ n. take lo list ++ (slice_range list (suc lo) hi ++ drop n list)) (add-one hi))
 
 -- what a pair adds that is put in, by the numbers that code has
-pub put-told : (model : Model) (w : ℕ) (list : List ℕ) (s t : ℕ) (pair : Pair) (m : Model) (n : ℕ) (l : List ℕ) (q : Pair) → m ≡ model → n ≡ w → l ≡ list → q ≡ pair
+pub put-told : (model : Model) (w : ℕ) (list : List ℕ) (s t : ℕ) (pair : Pair) (m : Model) (n : ℕ) (l : List ℕ) (q : Pair)
+    → m ≡ model → n ≡ w → l ≡ list → q ≡ pair
     → pair_added m n l q s t ≡ pair_added model w list pair s t
 put-told model w list s t pair m n l q of-model of-vehicle of-list of-pair =
     ap (λ (m : Model). pair_added m n l q s t) of-model

@@ -51,19 +51,23 @@ module _ (list : List ℕ) (lo hi : ℕ) (order : lo < hi) (low : hi < length li
   -- a node of the rest
   pub rest-at : (k : ℕ) → slice_index_or (without_two list lo hi) k 0 ≡ slice_index_or list (place_among_all k lo hi) 0
   rest-at k = elim (cases_lt k lo) [
-    | inl front ↦ get_or_append_left (take lo list) (mid ++ drop (suc hi) list) 0 k (omega (arith, front, front-long)) ∙ (get_or-take lo list k 0 front ∙ ap (λ n. slice_index_or list n 0) (sym (place-front k lo hi front)))
+    | inl front ↦ get_or_append_left (take lo list) (mid ++ drop (suc hi) list) 0 k (omega (arith, front, front-long))
+        ∙ (get_or-take lo list k 0 front ∙ ap (λ n. slice_index_or list n 0) (sym (place-front k lo hi front)))
     | inr past ↦ (
         let skip : slice_index_or (without_two list lo hi) k 0 ≡ slice_index_or (mid ++ drop (suc hi) list) (k - lo) 0 =
-        get_or-append_right (take lo list) (mid ++ drop (suc hi) list) k 0 (omega (arith, past, front-long)) ∙ ap (λ n. slice_index_or (mid ++ drop (suc hi) list) (k - n) 0) front-long in
+        get_or-append_right (take lo list) (mid ++ drop (suc hi) list) k 0 (omega (arith, past, front-long))
+        ∙ ap (λ n. slice_index_or (mid ++ drop (suc hi) list) (k - n) 0) front-long in
         elim (cases_lt (k + 1) hi) [
           | inl between ↦ (
               let here : suc lo + (k - lo) ≡ k + 1 = omega (arith, past) in
               skip ∙ (get_or_append_left mid (drop (suc hi) list) 0 (k - lo) (omega (arith, past, between, mid-long))
-              ∙ (get_or-between list (suc lo) hi (k - lo) 0 (omega (arith, past, between)) ∙ (ap (λ n. slice_index_or list n 0) here ∙ ap (λ n. slice_index_or list n 0) (sym (place-between k lo hi past between))))))
+              ∙ (get_or-between list (suc lo) hi (k - lo) 0 (omega (arith, past, between))
+              ∙ (ap (λ n. slice_index_or list n 0) here ∙ ap (λ n. slice_index_or list n 0) (sym (place-between k lo hi past between))))))
           | inr behind ↦ (
               let here : suc hi + (k - lo - length mid) ≡ k + 2 = omega (arith, past, behind, order, mid-long) in
               skip ∙ (get_or-append_right mid (drop (suc hi) list) (k - lo) 0 (omega (arith, past, behind, order, mid-long))
-              ∙ (get_or-drop (suc hi) list (k - lo - length mid) 0 ∙ (ap (λ n. slice_index_or list n 0) here ∙ ap (λ n. slice_index_or list n 0) (sym (place-behind k lo hi past behind))))))
+              ∙ (get_or-drop (suc hi) list (k - lo - length mid) 0
+              ∙ (ap (λ n. slice_index_or list n 0) here ∙ ap (λ n. slice_index_or list n 0) (sym (place-behind k lo hi past behind))))))
         ])
   ]
 
@@ -97,21 +101,26 @@ module _ {model : Model} {list : List ℕ} {lo hi : ℕ} (sound : IsRest model l
     pub rest-empty : length list ≡ 2 → pos 0 ≡ between_cost model v rest t t (slice_range rest t t)
     rest-empty two = sym (stretch-unused model v rest t t (omega arith) (omega (arith, fewer, two)))
 
-    pub rest-old : {before next : ℕ} {old : ℤ} → length list ≢ 2 → before ≡ before_place model v rest t → next ≡ at_place model v rest t → old ≡ arc_cost model v before next
+    pub rest-old : {before next : ℕ} {old : ℤ} → length list ≢ 2 → before ≡ before_place model v rest t
+        → next ≡ at_place model v rest t → old ≡ arc_cost model v before next
         → old ≡ between_cost model v rest t t (slice_range rest t t)
-    rest-old other before-is next-is is = is ∙ ap₂ (arc_cost model v) before-is next-is ∙ sym (gap-old model v rest t (omega (arith, low, fewer)) (omega (arith, low, other, fewer)))
+    rest-old other before-is next-is is = is ∙ ap₂ (arc_cost model v) before-is next-is
+        ∙ sym (gap-old model v rest t (omega (arith, low, fewer)) (omega (arith, low, other, fewer)))
 
     -- a pair whose delivery is put before the place, side by side with its pickup or behind it
-    pub rest-together : (pair : Pair) (s : ℕ) → s ≡ t → gap_added model v rest pair.pickup pair.delivery s +ℤ arc_cost model v pair.pickup pair.delivery ≡ pair_added model v rest pair s t
+    pub rest-together : (pair : Pair) (s : ℕ) → s ≡ t
+        → gap_added model v rest pair.pickup pair.delivery s +ℤ arc_cost model v pair.pickup pair.delivery ≡ pair_added model v rest pair s t
     rest-together pair s same = pair-together model v rest pair s (omega (arith, low, same, fewer)) ∙ ap (pair_added model v rest pair s) same
 
-    pub rest-apart : (pair : Pair) (s : ℕ) → s < t → gap_added model v rest pair.pickup pair.pickup s +ℤ gap_added model v rest pair.delivery pair.delivery t ≡ pair_added model v rest pair s t
+    pub rest-apart : (pair : Pair) (s : ℕ) → s < t
+        → gap_added model v rest pair.pickup pair.pickup s +ℤ gap_added model v rest pair.delivery pair.delivery t ≡ pair_added model v rest pair s t
     rest-apart pair s order = pair-apart model v rest pair s t order (omega (arith, low, fewer))
 
 module _ (model : Model) (lists : List (List ℕ)) where
   -- a served pair that is put back into its list
   pub back-no-less : (p s t v lo hi : ℕ) (bound base : ℤ) → IsOnce lists → ArePairPlaces lists (pair_at model p) v lo hi → lo < hi
-      → base ≡ costs_more model lists v (without_two (route lists v) lo hi) → bound ≤ℤ (base +ℤ pair_added model v (without_two (route lists v) lo hi) (pair_at model p) s t)
+      → base ≡ costs_more model lists v (without_two (route lists v) lo hi)
+      → bound ≤ℤ (base +ℤ pair_added model v (without_two (route lists v) lo hi) (pair_at model p) s t)
       → AddsNoLess model lists (RelocatePair p v s t) bound
   back-no-less p s t v lo hi bound base once places order is low one =
       let pair = pair_at model p in

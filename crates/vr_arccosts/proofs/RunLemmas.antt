@@ -1,5 +1,6 @@
 -- What the moves of a run add, by what the arcs beside their places cost.
-use Rattle.std.proofs.Common.{◌≡◌, ◌∙◌, ℕ, suc, ◌+◌, ◌-◌, ◌<◌, ◌≤◌, true, false, cond, List, [], ◌∷◌, ◌++◌, length, take, drop, refl, sym, ap, ap₂, subst, arith, append-nil, length-append, inl, inr}
+use Rattle.std.proofs.Common.{◌≡◌, ◌∙◌, ℕ, suc, ◌+◌, ◌-◌, ◌<◌, ◌≤◌, true, false, cond, List, [], ◌∷◌, ◌++◌, length, take, drop, refl, sym, ap, ap₂, subst}
+use Rattle.std.proofs.Common.{arith, append-nil, length-append, inl, inr}
 use Rattle.std.specs.Prelude.{ℤ, pos, ◌+ℤ◌, ◌-ℤ◌, ◌≤ℤ◌, slice_range, slice_index, slice_index_or, slice_set, insert, remove}
 use Rattle.std.proofs.lemmas.Bool.{cases_lt}
 use Rattle.std.proofs.lemmas.Bool.Decides.{eqb_tells}
@@ -41,9 +42,11 @@ first-or-behind P first k low here behind = elim (cases_lt first k) [
 module _ (model : Model) (v : ℕ) (list : List ℕ) where
   -- some nodes between two places
   pub between-used : (f b : ℕ) (nodes : List ℕ) → 0 < length nodes
-      → between_cost model v list f b nodes ≡ path_sum (arc_cost model v) (before_place model v list f) nodes +ℤ arc_cost model v (last_of (before_place model v list f) nodes) (at_place model v list b)
+      → between_cost model v list f b nodes ≡ path_sum (arc_cost model v) (before_place model v list f) nodes
+      +ℤ arc_cost model v (last_of (before_place model v list f) nodes) (at_place model v list b)
   between-used f b nodes some =
-      let x : ℤ = path_sum (arc_cost model v) (before_place model v list f) nodes +ℤ arc_cost model v (last_of (before_place model v list f) nodes) (at_place model v list b) in
+      let x : ℤ = path_sum (arc_cost model v) (before_place model v list f) nodes
+      +ℤ arc_cost model v (last_of (before_place model v list f) nodes) (at_place model v list b) in
       let inner = length-append nodes (drop b list) in
       let whole = length-append (take f list) (nodes ++ drop b list) in
       ap (λ e. cond e (pos 0) x) (some-where (take f list ++ (nodes ++ drop b list)) (λ e. absurd (omega (arith, inner, whole, some, e))))
@@ -57,7 +60,8 @@ module _ (model : Model) (v : ℕ) (list : List ℕ) where
 
   -- a part that is reversed
   turn-between : (a b : ℕ) → a < b → b < length list
-      → turn_added model v list a b ≡ between_cost model v list a (b + 1) (chain_of true list a (b + 1)) -ℤ between_cost model v list a (b + 1) (slice_range list a (b + 1))
+      → turn_added model v list a b
+      ≡ between_cost model v list a (b + 1) (chain_of true list a (b + 1)) -ℤ between_cost model v list a (b + 1) (slice_range list a (b + 1))
   turn-between a b order low =
       let cost = arc_cost model v in
       let nodes : List ℕ = chain_of true list a (b + 1) in
@@ -70,7 +74,8 @@ module _ (model : Model) (v : ℕ) (list : List ℕ) where
       let used = between-used a (b + 1) nodes some in
       let path = path-first cost from nodes some in
       let place : (b + 1) - 1 ≡ b = omega arith in
-      let first : cost from (slice_index_or nodes 0 0) ≡ cost from (slice_index_or list b 0) = ap (cost from) (chain-first list a (b + 1) up within true ∙ ap (λ n. slice_index_or list n 0) place) in
+      let first : cost from (slice_index_or nodes 0 0) ≡ cost from (slice_index_or list b 0) = ap (cost from)
+      (chain-first list a (b + 1) up within true ∙ ap (λ n. slice_index_or list n 0) place) in
       let last : cost (last_of from nodes) to ≡ cost (slice_index_or list a 0) to = ap (λ n. cost n to) (chain-last list a (b + 1) up within true from) in
       omega (arith, ints, used, path, first, last)
 
@@ -86,15 +91,18 @@ module _ (model : Model) (v : ℕ) (list : List ℕ) where
   front_sum k = path_sum cost (vehicle_at model v).start (take k list)
 
   -- no node between two places
-  pub bare : (f b : ℕ) → f ≤ b → b ≤ length list → 0 < f + (length list - b) → between_cost model v list f b [] ≡ cost (before_place model v list f) (at_place model v list b)
+  pub bare : (f b : ℕ) → f ≤ b → b ≤ length list → 0 < f + (length list - b)
+      → between_cost model v list f b [] ≡ cost (before_place model v list f) (at_place model v list b)
   bare f b order low some =
       let x : ℤ = cost (before_place model v list f) (at_place model v list b) in
       let many = many-apart list [] f b order low in
-      let is : between_cost model v list f b [] ≡ pos 0 +ℤ x = ap (λ e. cond e (pos 0) (pos 0 +ℤ x)) (some-where (take f list ++ ([] ++ drop b list)) (λ e. absurd (omega (arith, many, some, e)))) in
+      let is : between_cost model v list f b [] ≡ pos 0 +ℤ x = ap (λ e. cond e (pos 0) (pos 0 +ℤ x))
+      (some-where (take f list ++ ([] ++ drop b list)) (λ e. absurd (omega (arith, many, some, e)))) in
       omega (arith, ints, is)
 
   -- what stands between the stops beside a gap
-  pub gap-old : (u : ℕ) → u ≤ length list → 0 < length list → between_cost model v list u u (slice_range list u u) ≡ cost (before_place model v list u) (at_place model v list u)
+  pub gap-old : (u : ℕ) → u ≤ length list → 0 < length list
+      → between_cost model v list u u (slice_range list u u) ≡ cost (before_place model v list u) (at_place model v list u)
   gap-old u low some =
       let none : u - u ≡ 0 = omega arith in
       ap (λ n. between_cost model v list u u (take n (drop u list))) none ∙ bare u u (omega arith) low (omega (arith, low, some))
@@ -105,7 +113,9 @@ module _ (model : Model) (v : ℕ) (list : List ℕ) where
   stretch-sum a b order low =
       let used = stretch-used model v list a b (omega (arith, order)) (omega (arith, order, low)) in
       let path = path-between cost (vehicle_at model v).start list a b (omega (arith, order)) low in
-      let last : cost (last_of (before_place model v list a) (slice_range list a b)) (at_place model v list b) ≡ cost (slice_index_or list (b - 1) 0) (at_place model v list b) = ap (λ n. cost n (at_place model v list b)) (chain-last list a b order low false (before_place model v list a)) in
+      let last : cost (last_of (before_place model v list a) (slice_range list a b)) (at_place model v list b)
+      ≡ cost (slice_index_or list (b - 1) 0) (at_place model v list b) = ap (λ n. cost n (at_place model v list b))
+      (chain-last list a b order low false (before_place model v list a)) in
       omega (arith, ints, used, path, last)
 
   pub chain-sum : (a b : ℕ) → a < b → b ≤ length list
@@ -114,7 +124,8 @@ module _ (model : Model) (v : ℕ) (list : List ℕ) where
       let path = path-between cost (vehicle_at model v).start list a b (omega (arith, order)) low in
       let long = chain-length list a b order low false in
       let first = path-first cost (before_place model v list a) (slice_range list a b) (omega (arith, long, order)) in
-      let here : cost (before_place model v list a) (slice_index_or (slice_range list a b) 0 0) ≡ cost (before_place model v list a) (slice_index_or list a 0) = ap (cost (before_place model v list a)) (chain-first list a b order low false) in
+      let here : cost (before_place model v list a) (slice_index_or (slice_range list a b) 0 0)
+      ≡ cost (before_place model v list a) (slice_index_or list a 0) = ap (cost (before_place model v list a)) (chain-first list a b order low false) in
       omega (arith, ints, path, first, here)
 
   -- two chains of the list, one after the other, from the stop before a place
@@ -132,21 +143,25 @@ module _ (model : Model) (v : ℕ) (list : List ℕ) where
       let long = chain-length list a b order low false in
       let also = chain-length list c d next high false in
       let whole = length-append one two in
-      let plain : between_cost model v list f e (one ++ (two ++ [])) ≡ between_cost model v list f e (one ++ two) = ap (λ l. between_cost model v list f e (one ++ l)) (append-nil two) in
+      let plain : between_cost model v list f e (one ++ (two ++ [])) ≡ between_cost model v list f e (one ++ two) =
+      ap (λ l. between_cost model v list f e (one ++ l)) (append-nil two) in
       let used = between-used f e (one ++ two) (omega (arith, long, order, whole)) in
       let path = path-append cost from one two in
       let first = path-first cost from one (omega (arith, long, order)) in
       let second = path-first cost mid two (omega (arith, also, next)) in
       let first-is : cost from (slice_index_or one 0 0) ≡ cost from (slice_index_or list a 0) = ap (cost from) (chain-first list a b order low false) in
       let mid-is : mid ≡ slice_index_or list (b - 1) 0 = chain-last list a b order low false from in
-      let second-is : cost mid (slice_index_or two 0 0) ≡ cost (slice_index_or list (b - 1) 0) (slice_index_or list c 0) = ap (λ n. cost n (slice_index_or two 0 0)) mid-is ∙ ap (cost (slice_index_or list (b - 1) 0)) (chain-first list c d next high false) in
-      let last-is : cost (last_of from (one ++ two)) to ≡ cost (slice_index_or list (d - 1) 0) to = ap (λ n. cost n to) (last-append from one two ∙ chain-last list c d next high false mid) in
+      let second-is : cost mid (slice_index_or two 0 0) ≡ cost (slice_index_or list (b - 1) 0) (slice_index_or list c 0) =
+      ap (λ n. cost n (slice_index_or two 0 0)) mid-is ∙ ap (cost (slice_index_or list (b - 1) 0)) (chain-first list c d next high false) in
+      let last-is : cost (last_of from (one ++ two)) to ≡ cost (slice_index_or list (d - 1) 0) to = ap (λ n. cost n to)
+      (last-append from one two ∙ chain-last list c d next high false mid) in
       omega (arith, ints, plain, used, path, first, second, first-is, second-is, last-is)
 
   -- a chain that is put before a place in front of it
   pub back-between : (a k t : ℕ) → t < a → 1 ≤ k → a + k ≤ length list
       → left_added model v list a k +ℤ gap_added model v list (slice_index_or list a 0) (slice_index_or list (a + k - 1) 0) t
-      ≡ between_cost model v list t (a + k) (slice_range list a (a + k) ++ (slice_range list t a ++ [])) -ℤ between_cost model v list t (a + k) (slice_range list t (a + k))
+      ≡ between_cost model v list t (a + k) (slice_range list a (a + k) ++ (slice_range list t a ++ []))
+      -ℤ between_cost model v list t (a + k) (slice_range list t (a + k))
   back-between a k t order some low =
       let up : a < a + k = omega (arith, some) in
       let new = two-chains t a (a + k) t a (a + k) up low order (omega (arith, low)) in
@@ -156,16 +171,21 @@ module _ (model : Model) (v : ℕ) (list : List ℕ) where
       let chain = chain-sum a (a + k) up low in
       let other = chain-sum t a order (omega (arith, low)) in
       let gap = gap-old t (omega (arith, order, low)) (omega (arith, some, low)) in
-      let to : cost (slice_index_or list (a + k - 1) 0) (at_place model v list t) ≡ cost (slice_index_or list (a + k - 1) 0) (slice_index_or list t 0) = ap (cost (slice_index_or list (a + k - 1) 0)) (first-left (vehicle_at model v).end list t (omega (arith, order, low))) in
-      let here : cost (before_place model v list t) (at_place model v list t) ≡ cost (before_place model v list t) (slice_index_or list t 0) = ap (cost (before_place model v list t)) (first-left (vehicle_at model v).end list t (omega (arith, order, low))) in
-      let front : before_place model v list a ≡ slice_index_or list (a - 1) 0 = last-kept (vehicle_at model v).start list a (omega (arith, order)) (omega (arith, low)) in
-      let closes : cost (before_place model v list a) (at_place model v list (a + k)) ≡ cost (slice_index_or list (a - 1) 0) (at_place model v list (a + k)) = ap (λ n. cost n (at_place model v list (a + k))) front in
+      let to : cost (slice_index_or list (a + k - 1) 0) (at_place model v list t) ≡ cost (slice_index_or list (a + k - 1) 0) (slice_index_or list t 0) =
+      ap (cost (slice_index_or list (a + k - 1) 0)) (first-left (vehicle_at model v).end list t (omega (arith, order, low))) in
+      let here : cost (before_place model v list t) (at_place model v list t) ≡ cost (before_place model v list t) (slice_index_or list t 0) =
+      ap (cost (before_place model v list t)) (first-left (vehicle_at model v).end list t (omega (arith, order, low))) in
+      let front : before_place model v list a ≡ slice_index_or list (a - 1) 0 = last-kept (vehicle_at model v).start
+      list a (omega (arith, order)) (omega (arith, low)) in
+      let closes : cost (before_place model v list a) (at_place model v list (a + k))
+      ≡ cost (slice_index_or list (a - 1) 0) (at_place model v list (a + k)) = ap (λ n. cost n (at_place model v list (a + k))) front in
       omega (arith, ints, new, old, own, without, chain, other, gap, to, here, closes)
 
   -- a chain that is put before a place behind it
   pub on-between : (a k t : ℕ) → a < t → 1 ≤ k → t + k ≤ length list
       → left_added model v list a k +ℤ gap_added model v list (slice_index_or list a 0) (slice_index_or list (a + k - 1) 0) (t + k)
-      ≡ between_cost model v list a (t + k) (slice_range list (a + k) (t + k) ++ (slice_range list a (a + k) ++ [])) -ℤ between_cost model v list a (t + k) (slice_range list a (t + k))
+      ≡ between_cost model v list a (t + k) (slice_range list (a + k) (t + k) ++ (slice_range list a (a + k) ++ []))
+      -ℤ between_cost model v list a (t + k) (slice_range list a (t + k))
   on-between a k t order some low =
       let up : a < a + k = omega (arith, some) in
       let within : a + k ≤ length list = omega (arith, order, low) in
@@ -178,17 +198,25 @@ module _ (model : Model) (v : ℕ) (list : List ℕ) where
       let other = chain-sum (a + k) (t + k) rest low in
       let gap = gap-old (t + k) low (omega (arith, some, low)) in
       let next = first-left (vehicle_at model v).end list (a + k) (omega (arith, rest, low)) in
-      let leaves : cost (before_place model v list a) (at_place model v list (a + k)) ≡ cost (before_place model v list a) (slice_index_or list (a + k) 0) = ap (cost (before_place model v list a)) next in
-      let own-to : cost (slice_index_or list (a + k - 1) 0) (at_place model v list (a + k)) ≡ cost (slice_index_or list (a + k - 1) 0) (slice_index_or list (a + k) 0) = ap (cost (slice_index_or list (a + k - 1) 0)) next in
-      let chain-end : before_place model v list (a + k) ≡ slice_index_or list (a + k - 1) 0 = last-kept (vehicle_at model v).start list (a + k) (omega (arith, some)) within in
-      let other-from : cost (before_place model v list (a + k)) (slice_index_or list (a + k) 0) ≡ cost (slice_index_or list (a + k - 1) 0) (slice_index_or list (a + k) 0) = ap (λ n. cost n (slice_index_or list (a + k) 0)) chain-end in
-      let front : before_place model v list (t + k) ≡ slice_index_or list (t + k - 1) 0 = last-kept (vehicle_at model v).start list (t + k) (omega (arith, some)) low in
-      let into : cost (before_place model v list (t + k)) (slice_index_or list a 0) ≡ cost (slice_index_or list (t + k - 1) 0) (slice_index_or list a 0) = ap (λ n. cost n (slice_index_or list a 0)) front in
-      let here : cost (before_place model v list (t + k)) (at_place model v list (t + k)) ≡ cost (slice_index_or list (t + k - 1) 0) (at_place model v list (t + k)) = ap (λ n. cost n (at_place model v list (t + k))) front in
+      let leaves : cost (before_place model v list a) (at_place model v list (a + k)) ≡ cost (before_place model v list a) (slice_index_or list (a + k) 0) =
+      ap (cost (before_place model v list a)) next in
+      let own-to : cost (slice_index_or list (a + k - 1) 0) (at_place model v list (a + k))
+      ≡ cost (slice_index_or list (a + k - 1) 0) (slice_index_or list (a + k) 0) = ap (cost (slice_index_or list (a + k - 1) 0)) next in
+      let chain-end : before_place model v list (a + k) ≡ slice_index_or list (a + k - 1) 0 = last-kept (vehicle_at model v).start
+      list (a + k) (omega (arith, some)) within in
+      let other-from : cost (before_place model v list (a + k)) (slice_index_or list (a + k) 0)
+      ≡ cost (slice_index_or list (a + k - 1) 0) (slice_index_or list (a + k) 0) = ap (λ n. cost n (slice_index_or list (a + k) 0)) chain-end in
+      let front : before_place model v list (t + k) ≡ slice_index_or list (t + k - 1) 0 = last-kept (vehicle_at model v).start
+      list (t + k) (omega (arith, some)) low in
+      let into : cost (before_place model v list (t + k)) (slice_index_or list a 0) ≡ cost (slice_index_or list (t + k - 1) 0) (slice_index_or list a 0) =
+      ap (λ n. cost n (slice_index_or list a 0)) front in
+      let here : cost (before_place model v list (t + k)) (at_place model v list (t + k))
+      ≡ cost (slice_index_or list (t + k - 1) 0) (at_place model v list (t + k)) = ap (λ n. cost n (at_place model v list (t + k))) front in
       omega (arith, ints, new, old, own, without, chain, other, gap, leaves, own-to, other-from, into, here)
 
   -- another node at a place
-  swap-between : (a y : ℕ) → swap_added model v list a y ≡ between_cost model v list a (a + 1) (y ∷ []) -ℤ between_cost model v list a (a + 1) (slice_range list a (a + 1))
+  swap-between : (a y : ℕ)
+      → swap_added model v list a y ≡ between_cost model v list a (a + 1) (y ∷ []) -ℤ between_cost model v list a (a + 1) (slice_range list a (a + 1))
   swap-between a y = let used = between-used a (a + 1) (y ∷ []) (omega arith) in omega (arith, ints, used)
 
   -- two nodes of the list in each other's place, with others between them
@@ -216,12 +244,15 @@ module _ (model : Model) (v : ℕ) (list : List ℕ) where
       let here : (a + 1) - 1 ≡ a = omega arith in
       let old-last : cost (slice_index_or list ((b + 1) - 1) 0) to ≡ cost (slice_index_or list b 0) to = ap (λ n. cost (slice_index_or list n 0) to) place in
       let next = first-left (vehicle_at model v).end list (a + 1) (omega (arith, order, low)) in
-      let one-last : cost (slice_index_or list ((a + 1) - 1) 0) (at_place model v list (a + 1)) ≡ cost (slice_index_or list a 0) (slice_index_or list (a + 1) 0) = ap₂ (λ n m. cost (slice_index_or list n 0) m) here next in
+      let one-last : cost (slice_index_or list ((a + 1) - 1) 0) (at_place model v list (a + 1))
+      ≡ cost (slice_index_or list a 0) (slice_index_or list (a + 1) 0) = ap₂ (λ n m. cost (slice_index_or list n 0) m) here next in
       let other-next : cost y (at_place model v list (a + 1)) ≡ cost y (slice_index_or list (a + 1) 0) = ap (cost y) next in
       let front : before_place model v list b ≡ slice_index_or list (b - 1) 0 = last-kept (vehicle_at model v).start list b (omega (arith, order)) within in
       let into : cost (before_place model v list b) x ≡ cost (slice_index_or list (b - 1) 0) x = ap (λ n. cost n x) front in
-      let behind : before_place model v list (a + 1) ≡ slice_index_or list a 0 = last-kept (vehicle_at model v).start list (a + 1) (omega arith) (omega (arith, order, low)) ∙ ap (λ n. slice_index_or list n 0) here in
-      let chain-from : cost (before_place model v list (a + 1)) (slice_index_or list (a + 1) 0) ≡ cost (slice_index_or list a 0) (slice_index_or list (a + 1) 0) = ap (λ n. cost n (slice_index_or list (a + 1) 0)) behind in
+      let behind : before_place model v list (a + 1) ≡ slice_index_or list a 0 =
+      last-kept (vehicle_at model v).start list (a + 1) (omega arith) (omega (arith, order, low)) ∙ ap (λ n. slice_index_or list n 0) here in
+      let chain-from : cost (before_place model v list (a + 1)) (slice_index_or list (a + 1) 0)
+      ≡ cost (slice_index_or list a 0) (slice_index_or list (a + 1) 0) = ap (λ n. cost n (slice_index_or list (a + 1) 0)) behind in
       omega (arith, ints, used, path, first, first-is, last-is, ends-is, chain, old, one, other, old-last, one-last, other-next, into, chain-from)
 
 module _ (model : Model) (lists : List (List ℕ)) where
@@ -239,7 +270,9 @@ module _ (model : Model) (lists : List (List ℕ)) where
       turn ∙ (sym change ∙ is)
 
   pub turn-no-less : (v a b : ℕ) (bound : ℤ) → bound ≤ℤ turn_added model v (route lists v) a b → AddsNoLess model lists (TwoOpt v a b) bound
-  turn-no-less v a b bound low one = let facts = of_two_opt model lists v a b one in subst (λ d. bound ≤ℤ d) (turn-adds v a b facts.vehicle facts.order facts.place) low
+  turn-no-less v a b bound low one =
+      let facts = of_two_opt model lists v a b one in
+      subst (λ d. bound ≤ℤ d) (turn-adds v a b facts.vehicle facts.order facts.place) low
 
   pub gap-adds : (w t x : ℕ) → t ≤ length (route lists w)
       → gap_added model w (route lists w) x x t ≡ costs_more model lists w (insert (route lists w) t x)
@@ -248,7 +281,9 @@ module _ (model : Model) (lists : List (List ℕ)) where
 
   -- a chain that is put elsewhere in its list, in front of its place or behind it
   pub back-adds : (v a k t : ℕ) → v < length lists → t < a → 1 ≤ k → a + k ≤ length (route lists v)
-      → left_added model v (route lists v) a k +ℤ gap_added model v (route lists v) (slice_index_or (route lists v) a 0) (slice_index_or (route lists v) (a + k - 1) 0) t ≡ arcs_added model lists (OrOpt v a k t)
+      → left_added model v (route lists v) a k
+      +ℤ gap_added model v (route lists v) (slice_index_or (route lists v) a 0) (slice_index_or (route lists v) (a + k - 1) 0) t
+      ≡ arcs_added model lists (OrOpt v a k t)
   back-adds v a k t known order some low =
       let list : List ℕ = route lists v in
       let nodes : List ℕ = slice_range list a (a + k) ++ (slice_range list t a ++ []) in
@@ -258,7 +293,9 @@ module _ (model : Model) (lists : List (List ℕ)) where
       ∙ one-list model lists (OrOpt v a k t) v (chain_moved list a k t) known refl))
 
   pub on-adds : (v a k t : ℕ) → v < length lists → a < t → 1 ≤ k → t + k ≤ length (route lists v)
-      → left_added model v (route lists v) a k +ℤ gap_added model v (route lists v) (slice_index_or (route lists v) a 0) (slice_index_or (route lists v) (a + k - 1) 0) (t + k) ≡ arcs_added model lists (OrOpt v a k t)
+      → left_added model v (route lists v) a k
+      +ℤ gap_added model v (route lists v) (slice_index_or (route lists v) a 0) (slice_index_or (route lists v) (a + k - 1) 0) (t + k)
+      ≡ arcs_added model lists (OrOpt v a k t)
   on-adds v a k t known order some low =
       let list : List ℕ = route lists v in
       let nodes : List ℕ = slice_range list (a + k) (t + k) ++ (slice_range list a (a + k) ++ []) in
@@ -269,7 +306,8 @@ module _ (model : Model) (lists : List (List ℕ)) where
 
   pub shift-no-less : (v a k t : ℕ) (bound base : ℤ) → v < length lists → 1 ≤ k → a + k ≤ length (route lists v) → base ≡ left_added model v (route lists v) a k
       → (t < a → bound ≤ℤ (base +ℤ gap_added model v (route lists v) (slice_index_or (route lists v) a 0) (slice_index_or (route lists v) (a + k - 1) 0) t))
-      → (a < t → bound ≤ℤ (base +ℤ gap_added model v (route lists v) (slice_index_or (route lists v) a 0) (slice_index_or (route lists v) (a + k - 1) 0) (t + k)))
+      → (a < t
+      → bound ≤ℤ (base +ℤ gap_added model v (route lists v) (slice_index_or (route lists v) a 0) (slice_index_or (route lists v) (a + k - 1) 0) (t + k)))
       → AddsNoLess model lists (OrOpt v a k t) bound
   shift-no-less v a k t bound base known some within is front behind one =
       let list : List ℕ = route lists v in
@@ -277,7 +315,8 @@ module _ (model : Model) (lists : List (List ℕ)) where
       elim (cases_lt t a) [
         | inl low ↦ subst (λ d. bound ≤ℤ d) (ap (λ b. b +ℤ gap t) is ∙ back-adds v a k t known low some within) (front low)
         | inr high ↦ elim (cases_lt a t) [
-          | inl low ↦ subst (λ d. bound ≤ℤ d) (ap (λ b. b +ℤ gap (t + k)) is ∙ on-adds v a k t known low some (of_or_opt model lists v a k t one).gap) (behind low)
+          | inl low ↦
+              subst (λ d. bound ≤ℤ d) (ap (λ b. b +ℤ gap (t + k)) is ∙ on-adds v a k t known low some (of_or_opt model lists v a k t one).gap) (behind low)
           | inr same ↦ absurd (own v a k t one (omega (arith, high, same)))
         ]
       ]
@@ -311,16 +350,20 @@ module _ (model : Model) (lists : List (List ℕ)) where
             swap-both model v list a b y x (far same) here
             ∙ (sym (cost-between model v list (y ∷ (slice_range list (a + 1) b ++ x ∷ [])) a (b + 1) (omega (arith, far same)) (omega (arith, here)))
             ∙ (ap (costs_more model lists v) (swapped-list list a b y x (facts.behind same) here)
-            ∙ one-list model lists (Exchange v a w b) v (slice_set (slice_set list a y) b x) facts.vehicle (exchanged_within lists v w a b y x same facts.vehicle))) in
-            let there : swap_added model v list a y +ℤ swap_added model w other b x ≡ swap_added model v list a y +ℤ swap_added model v list b x = ap (λ u. swap_added model v list a y +ℤ swap_added model u (route lists u) b x) (sym same) in
+            ∙ one-list model lists (Exchange v a w b) v (slice_set (slice_set list a y) b x)
+            facts.vehicle (exchanged_within lists v w a b y x same facts.vehicle))) in
+            let there : swap_added model v list a y +ℤ swap_added model w other b x ≡ swap_added model v list a y +ℤ swap_added model v list b x =
+            ap (λ u. swap_added model v list a y +ℤ swap_added model u (route lists u) b x) (sym same) in
             subst (λ d. bound ≤ℤ d) (there ∙ near) low)
         | inr told ↦ let apart = told.1 in subst (λ d. bound ≤ℤ d)
             (ap₂ (λ c d. c +ℤ d) (swap-adds v a y facts.place) (swap-adds w b x facts.other_place)
-            ∙ two-lists model lists (Exchange v a w b) v w (slice_set list a y) (slice_set other b x) facts.vehicle facts.other apart (exchanged_between lists v w b x (slice_set list a y) apart)) low
+            ∙ two-lists model lists (Exchange v a w b) v w (slice_set list a y) (slice_set other b x)
+            facts.vehicle facts.other apart (exchanged_between lists v w b x (slice_set list a y) apart)) low
       ]
 
   -- a node that is put into the list of another vehicle
-  pub relocate-no-less : (v a w t : ℕ) {node : ℕ} (bound base : ℤ) → base ≡ costs_more model lists v (with_between (route lists v) a (a + 1) []) → node ≡ slice_index (route lists v) a
+  pub relocate-no-less : (v a w t : ℕ) {node : ℕ} (bound base : ℤ)
+      → base ≡ costs_more model lists v (with_between (route lists v) a (a + 1) []) → node ≡ slice_index (route lists v) a
       → bound ≤ℤ (base +ℤ gap_added model w (route lists w) node node t) → AddsNoLess model lists (Relocate v a w t) bound
   relocate-no-less v a w t bound base is node-is low one =
       let list : List ℕ = route lists v in
@@ -328,7 +371,8 @@ module _ (model : Model) (lists : List (List ℕ)) where
       subst (λ d. bound ≤ℤ d)
       (ap₂ (λ c x. c +ℤ gap_added model w (route lists w) x x t) (is ∙ ap (costs_more model lists v) (without-one list a)) node-is
       ∙ ap (λ d. costs_more model lists v (remove list a) +ℤ d) (gap-adds w t (slice_index list a) facts.gap)
-      ∙ two-lists model lists (Relocate v a w t) v w (remove list a) (insert (route lists w) t (slice_index list a)) facts.vehicle facts.other facts.apart refl) low
+      ∙ two-lists model lists (Relocate v a w t) v w (remove list a)
+      (insert (route lists w) t (slice_index list a)) facts.vehicle facts.other facts.apart refl) low
 
   -- what a chain adds where it leaves its place, as code works it out
   pub left-adds : (v a k : ℕ) (x c : ℤ) → a + k ≤ length (route lists v) → x ≡ costs_more model lists v (with_between (route lists v) a (a + k) [])
@@ -337,7 +381,8 @@ module _ (model : Model) (lists : List (List ℕ)) where
 
   -- the run of a chain, by the numbers that code has
   pub shift-told : (v a k t : ℕ) (bound base : ℤ) → v < length lists → 1 ≤ k → a + k ≤ length (route lists v) → base ≡ left_added model v (route lists v) a k
-      → (m : Model) (n f l : ℕ) (list : List ℕ) → m ≡ model → n ≡ v → list ≡ route lists v → f ≡ slice_index (route lists v) a → l ≡ slice_index (route lists v) (a + k - 1)
+      → (m : Model) (n f l : ℕ) (list : List ℕ) → m ≡ model → n ≡ v → list ≡ route lists v
+      → f ≡ slice_index (route lists v) a → l ≡ slice_index (route lists v) (a + k - 1)
       → (t < a → bound ≤ℤ (base +ℤ gap_added m n list f l t)) → (a < t → bound ≤ℤ (base +ℤ gap_added m n list f l (t + k)))
       → AddsNoLess model lists (OrOpt v a k t) bound
   shift-told v a k t bound base known some within is m n f l list of-model of-vehicle of-list first last front behind =

@@ -39,7 +39,8 @@ not-in-front xs j start from below high = elim (cases_lt j start) [
 held-kept : (p : ℕ → Bool) (xs : List ℕ) (x : ℕ) → IsTrue (holds xs x) → p x ≡ true → IsTrue (holds (filter p xs) x)
 held-kept p [] x held passes = absurd (clash false held refl)
 held-kept p (y ∷ ys) x held passes = elim (or_cases (x == y) (holds ys x) held) [
-  | inl here ↦ (let there : p y ≡ true = subst (λ z. p z ≡ true) (eq_of_test x y here) passes in subst (λ b. IsTrue (holds (cond b (y ∷ filter p ys) (filter p ys)) x)) (sym there) (or_left (x == y) _ here))
+  | inl here ↦ (let there : p y ≡ true = subst (λ z. p z ≡ true) (eq_of_test x y here) passes in
+      subst (λ b. IsTrue (holds (cond b (y ∷ filter p ys) (filter p ys)) x)) (sym there) (or_left (x == y) _ here))
   | inr behind ↦ by (p y) (held-kept p ys x behind passes)
 ]
   where
@@ -52,10 +53,12 @@ module _ (model : Model) (lists : List (List ℕ)) where
   pub newcomer-held : (v a u : ℕ) → is_move model lists (SwapActive v a u) ≡ true → IsTrue (holds (inactive_of (visits model) lists) u)
   newcomer-held v a u one =
       let idle = and_right (is_place lists v a) (is_inactive model lists u) (and_right (is_vehicle lists v) _ one) in
-      held-kept (λ node. not (is_active lists node)) (visits model) u (visit_held model u (and_left (is_visit model u) _ idle)) (and_right (is_visit model u) _ idle)
+      held-kept (λ node. not (is_active lists node)) (visits model) u
+      (visit_held model u (and_left (is_visit model u) _ idle)) (and_right (is_visit model u) _ idle)
 
   -- it adds what the arcs beside the place cost more
   pub swap-in-no-less : (v a u : ℕ) (bound : ℤ) → bound ≤ℤ swap_added model v (route lists v) a u → AddsNoLess model lists (SwapActive v a u) bound
   swap-in-no-less v a u bound low one =
       let facts = of_swap_active model lists v a u one in
-      subst (λ d. bound ≤ℤ d) (swap-adds model lists v a u facts.place ∙ one-list model lists (SwapActive v a u) v (slice_set (route lists v) a u) facts.vehicle refl) low
+      subst (λ d. bound ≤ℤ d)
+      (swap-adds model lists v a u facts.place ∙ one-list model lists (SwapActive v a u) v (slice_set (route lists v) a u) facts.vehicle refl) low

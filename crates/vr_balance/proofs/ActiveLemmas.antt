@@ -20,7 +20,10 @@ sum-same f g same (x ∷ xs) = sum_by-cons f x xs ∙ (ap₂ (λ a b. a + b) (sa
 
 pub sum-none : {A : Type 0} (xs : List A) → sum_by (λ x. 0) xs ≡ 0
 sum-none [] = refl
-sum-none {A} (x ∷ xs) = let c : sum_by (λ (y : A). 0) (x ∷ xs) ≡ 0 + sum_by (λ (y : A). 0) xs = sum_by-cons (λ y. 0) x xs in let i = sum-none xs in omega (arith, c, i)
+sum-none {A} (x ∷ xs) =
+    let c : sum_by (λ (y : A). 0) (x ∷ xs) ≡ 0 + sum_by (λ (y : A). 0) xs = sum_by-cons (λ y. 0) x xs in
+    let i = sum-none xs in
+    omega (arith, c, i)
 
 pub sum-plus : {A : Type 0} (f g : A → ℕ) (xs : List A) → sum_by (λ x. f x + g x) xs ≡ sum_by f xs + sum_by g xs
 sum-plus f g [] = refl

@@ -1,5 +1,6 @@
 -- Sums along paths, taken apart.
-use Rattle.std.proofs.Common.{◌≡◌, ◌∙◌, ◌⊎◌, inl, inr, ℕ, zero, suc, ◌+◌, ◌-◌, ◌<◌, ◌≤◌, List, [], ◌∷◌, ◌++◌, length, take, drop, refl, sym, ap, subst, arith, length-append, to_z, of_z, w64}
+use Rattle.std.proofs.Common.{◌≡◌, ◌∙◌, ◌⊎◌, inl, inr, ℕ, zero, suc, ◌+◌, ◌-◌, ◌<◌, ◌≤◌, List, [], ◌∷◌, ◌++◌, length, take, drop, refl, sym, ap, subst, arith}
+use Rattle.std.proofs.Common.{length-append, to_z, of_z, w64}
 use Rattle.std.specs.Prelude.{ℤ, pos, ◌+ℤ◌, ◌-ℤ◌, slice_range, slice_index_or}
 use Rattle.std.proofs.lemmas.Int.{ints}
 use Rattle.std.proofs.lemmas.Bool.{cases_lt}
@@ -34,7 +35,8 @@ path-between f at (x ∷ xs) (suc a) zero order low = absurd (omega (arith, orde
 path-between f at (x ∷ xs) (suc a) (suc b) order low =
     let i = path-between f x xs a b (omega (arith, order)) (omega (arith, low)) in
     let e : suc b - suc a ≡ b - a = omega arith in
-    let same : path_sum f (last_of x (take a xs)) (slice_range (x ∷ xs) (suc a) (suc b)) ≡ path_sum f (last_of x (take a xs)) (slice_range xs a b) = ap (λ n. path_sum f (last_of x (take a xs)) (take n (drop a xs))) e in
+    let same : path_sum f (last_of x (take a xs)) (slice_range (x ∷ xs) (suc a) (suc b)) ≡ path_sum f (last_of x (take a xs)) (slice_range xs a b) =
+    ap (λ n. path_sum f (last_of x (take a xs)) (take n (drop a xs))) e in
     omega (arith, ints, i, same)
 
 -- ---- sums that are kept
@@ -78,12 +80,14 @@ module _ (sums more : List ℤ) (x : ℤ) (is : more ≡ sums ++ x ∷ []) where
           subst (IsUpTo k) (sym (at k same)) (subst (λ n. IsUpTo n x) (sym same) up)
 
   -- those of one arc more
-  pub sums-more : (f : ℕ → ℕ → ℤ) (first : ℕ) (nodes : List ℕ) (n : ℕ) (value : ℤ) → AreSumsTo f first nodes n sums → n < length nodes → length sums < 1002 → IsUpTo 1 value
+  pub sums-more : (f : ℕ → ℕ → ℤ) (first : ℕ) (nodes : List ℕ) (n : ℕ) (value : ℤ)
+      → AreSumsTo f first nodes n sums → n < length nodes → length sums < 1002 → IsUpTo 1 value
       → value ≡ f (last_of first (take n nodes)) (slice_index_or nodes n 0) → x ≡ number_at sums n +ℤ value → AreSumsTo f first nodes (n + 1) more
   sums-more f first nodes n value h low room up arc sum = record {
     many = (let m = h.many in omega (arith, long, m));
     each = λ k high. each k (cases_lt k (suc n)) high;
-    range = range-more h.range room (let m = h.many in let u = h.range.each n (omega (arith, m)) in record { low = omega (arith, ints, u.low, up.low, sum); high = omega (arith, ints, u.high, up.high, sum, m) });
+    range = range-more h.range room (let m = h.many in let u = h.range.each n (omega (arith, m)) in
+        record { low = omega (arith, ints, u.low, up.low, sum); high = omega (arith, ints, u.high, up.high, sum, m) });
   }
     where
       each : (k : ℕ) → (k < suc n) ⊎ (suc n ≤ k) → k ≤ n + 1 → number_at more k ≡ path_sum f first (take k nodes)

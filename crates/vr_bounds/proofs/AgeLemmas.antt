@@ -16,7 +16,8 @@ next-further clock =
 
 module _ (model : Model) (v : ℕ) (puts : Puts) where
   -- one of two ages
-  pub either : (next : List ℕ) (place a b : ℕ) → MayStand model v puts next place a → MayStand model v puts next place b → MayStand model v puts next place (min a b)
+  pub either : (next : List ℕ) (place a b : ℕ) → MayStand model v puts next place a
+      → MayStand model v puts next place b → MayStand model v puts next place (min a b)
   either next place a b one other = elim (cases_lt a b) [
     | inl less ↦ (let is : min a b ≡ a = min-eq_left (omega (arith, less)) in subst (MayStand model v puts next place) (sym is) one)
     | inr more ↦ (let is : min a b ≡ b = min-eq_right more in subst (MayStand model v puts next place) (sym is) other)
@@ -31,7 +32,8 @@ module _ (model : Model) (v : ℕ) (puts : Puts) where
   }
 
   -- the age of a gap that stays
-  pub kept-age : ArePuts model v puts → (old : ℕ) (next : List ℕ) (place age : ℕ) → old ≤ length puts.row → 0 < length puts.row → age ≡ age_at puts old → age < 2 ^ 32
+  pub kept-age : ArePuts model v puts → (old : ℕ) (next : List ℕ) (place age : ℕ)
+      → old ≤ length puts.row → 0 < length puts.row → age ≡ age_at puts old → age < 2 ^ 32
       → ((node : ℕ) → gap_added model v puts.row node node old ≡ gap_added model v next node node place) → MayStand model v puts next place age
   kept-age are old next place age low some is fits same = record {
     born = (let b = are.born old low in omega (arith, is, b));

@@ -47,7 +47,8 @@ module _ (model : Model) (v : ℕ) where
 
   module _ (puts : Puts) (are : ArePuts model v puts) where
     -- with another list
-    pub followed : (row ages : List ℕ) (clock : ℕ) → clock ≡ next_age puts.clock → All (λ node. node < model.nodes) row → length row ≤ 1000 → length ages ≡ length row + 1
+    pub followed : (row ages : List ℕ) (clock : ℕ) → clock ≡ next_age puts.clock
+        → All (λ node. node < model.nodes) row → length row ≤ 1000 → length ages ≡ length row + 1
         → ((place : ℕ) → place ≤ length row → MayStand model v puts row place (slice_index_or ages place 0))
         → ArePuts model v (record { row = row; ages = ages; clock = clock; bounds = puts.bounds })
     followed row ages clock is nodes few gaps each = record {
@@ -72,7 +73,8 @@ module _ (model : Model) (v : ℕ) where
       born = are.born;
       shown = are.shown;
       past = λ other low. set-each (λ k b. b.stamp < next_age puts.clock) puts.bounds node bound unknown there young other (are.past other low);
-      least = λ other low some. set-each (λ k b. IsLeast model v puts k b) puts.bounds node bound unknown there (λ place within older. is place within) other (are.least other low some);
+      least = λ other low some. set-each (λ k b. IsLeast model v puts k b) puts.bounds node bound
+          unknown there (λ place within older. is place within) other (are.least other low some);
     }
       where
         there : node < length puts.bounds
@@ -83,12 +85,14 @@ module _ (model : Model) (v : ℕ) where
     no-older node bound low is place within = is place within (let s = are.shown place within in omega (arith, s, low))
 
 -- what is kept of one vehicle
-pub puts-at : (model : Model) (lists : List (List ℕ)) (puts : List Puts) (v : ℕ) (one : Puts) → AreAllPuts model lists puts → length puts ≡ length lists → v < length lists → one ≡ slice_index_or puts v one
+pub puts-at : (model : Model) (lists : List (List ℕ)) (puts : List Puts) (v : ℕ) (one : Puts)
+    → AreAllPuts model lists puts → length puts ≡ length lists → v < length lists → one ≡ slice_index_or puts v one
     → IsPutsOf model v (route lists v) one
 puts-at model lists puts v one are many low is =
     subst (IsPutsOf model v (route lists v)) (sym (is ∙ get_or_default puts v one no_puts (omega (arith, many, low)))) (are v low)
 
 -- what is kept of one vehicle is other than it was
-pub puts-set : (model : Model) (lists : List (List ℕ)) (puts : List Puts) (v : ℕ) (one : Puts) → AreAllPuts model lists puts → v < length puts → IsPutsOf model v (route lists v) one
+pub puts-set : (model : Model) (lists : List (List ℕ)) (puts : List Puts) (v : ℕ) (one : Puts)
+    → AreAllPuts model lists puts → v < length puts → IsPutsOf model v (route lists v) one
     → AreAllPuts model lists (slice_set puts v one)
 puts-set model lists puts v one are low is u known = set-each (λ k p. IsPutsOf model k (route lists k) p) puts v one no_puts low is u (are u known)

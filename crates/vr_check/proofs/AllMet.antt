@@ -44,7 +44,8 @@ parts_are p q h =
 same_cost : (a b : ℤ) → Meets a ≡ Meets b → b ≡ a
 same_cost a b h = cc
 
-keeps : (model : Model) (printed : Printed) (cost : ℤ) → IsTrue (are_routes_shaped model printed.routes) → lists_finding model printed (lists_of printed.routes) ≡ Meets cost → KeepsAllRules model printed cost
+keeps : (model : Model) (printed : Printed) (cost : ℤ) → IsTrue (are_routes_shaped model printed.routes)
+    → lists_finding model printed (lists_of printed.routes) ≡ Meets cost → KeepsAllRules model printed cost
 keeps model printed cost shaped h =
     let lists = lists_of printed.routes in
     let routes = printed.routes in
@@ -68,7 +69,8 @@ keeps model printed cost shaped h =
       nodes_are_stops = ends_stops model routes shaped ends.0;
       dropped_are_inactive = same_of_test printed.dropped (inactive model lists) (is_right (is_same printed.dropped (inactive model lists)) nowhere dropped.0);
       lists_valid = lists_valid_from model lists count (ends_visits model routes ends.0) once.0 required.0 group.0
-          (λ v low. route_is_open model lists pair.0 policy.0 allowed.0 v low (λ some d less. lines_feasible model routes shaped cumul.0 slack.0 taken.0 d v less low some));
+          (λ v low. route_is_open model lists pair.0 policy.0 allowed.0 v low
+          (λ some d less. lines_feasible model routes shaped cumul.0 slack.0 taken.0 d v less low some));
       plans_are_schedules = plans_scheduled model routes shaped cumul.0 slack.0 taken.0;
       parts_are_those = parts_are printed.parts (parts_at model (assignment_of routes)) parts.0;
       cost_is_printed = same_cost printed.cost cost limits.1;
@@ -81,6 +83,7 @@ pub met_keeps_all_rules : MetKeepsAllRules
 unfolding finding
 met_keeps_all_rules model d cost well h = by (printed_in model d) refl h
   where
-    by : (read : Option Printed) → printed_in model d ≡ read → finding_in model read ≡ Meets cost → (printed : Printed) × (printed_in model d ≡ Some printed) × KeepsAllRules model printed cost
+    by : (read : Option Printed) → printed_in model d ≡ read → finding_in model read ≡ Meets cost
+        → (printed : Printed) × (printed_in model d ≡ Some printed) × KeepsAllRules model printed cost
     by None e h = absurd (cc)
     by (Some printed) e h = (printed, e, keeps model printed cost (printed_shaped model d printed e) h)

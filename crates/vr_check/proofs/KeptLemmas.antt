@@ -27,7 +27,8 @@ module _ (model : Model) (printed : Printed) (lists : List (List ℕ)) (routes :
   few_routes well = omega (arith, routes_count model routes of.shaped, well.number_of_vehicles.at_most)
 
   -- the route of a vehicle
-  route_kept : IsWellFormed model → (v : ℕ) → v < length routes → (list : List ℕ) (other : PrintedRoute) → list ≡ route lists v → other ≡ slice_index_or routes v no_route → IsRouteOf model v list other
+  route_kept : IsWellFormed model → (v : ℕ) → v < length routes → (list : List ℕ) (other : PrintedRoute)
+      → list ≡ route lists v → other ≡ slice_index_or routes v no_route → IsRouteOf model v list other
   route_kept well v low list other e r = record {
     vehicle = omega (arith, low, routes_count model routes of.shaped);
     same = e ∙ ap (λ lists. route lists v) of.lists_are ∙ route_is routes v ∙ ap visits_of (sym r);
@@ -37,7 +38,8 @@ module _ (model : Model) (printed : Printed) (lists : List (List ℕ)) (routes :
   }
 
   -- the route of a vehicle, as indices into lists and routes give its parts
-  pub route_kept_at : IsWellFormed model → (v : ℕ) → v < length routes → (list at : List ℕ) (other : PrintedRoute) → list ≡ at → at ≡ get_or lists v at → other ≡ get_or routes v other → IsRouteOf model v list other
+  pub route_kept_at : IsWellFormed model → (v : ℕ) → v < length routes → (list at : List ℕ) (other : PrintedRoute)
+      → list ≡ at → at ≡ get_or lists v at → other ≡ get_or routes v other → IsRouteOf model v list other
   route_kept_at well v low list at other same l r =
       let there : v < length lists = omega (arith, low, lists_count) in
       route_kept well v low list other (same ∙ (l ∙ get_or_default lists v at [] there)) (r ∙ get_or_default routes v other no_route low)
@@ -45,7 +47,8 @@ module _ (model : Model) (printed : Printed) (lists : List (List ℕ)) (routes :
 module _ (model : Model) (v : ℕ) (list : List ℕ) (route : PrintedRoute) (of : IsRouteOf model v list route) (d : ℕ) (low : d < length route.plans) where
   -- the line of a plan
   pub line_kept : IsWellFormed model → IsLineOfModel model d v list
-  line_kept well = record { well_formed = well; dimension = (lengths_of model v route of.shaped d low).dimension; vehicle = of.vehicle; visits = of.visits; few = of.few }
+  line_kept well =
+      record { well_formed = well; dimension = (lengths_of model v route of.shaped d low).dimension; vehicle = of.vehicle; visits = of.visits; few = of.few }
 
   -- the plan itself
   pub plan_fits : (plan : PrintedPlan) → plan_in route d ≡ plan → FitsLine model d v list plan

@@ -1,5 +1,6 @@
 -- Sums over printed plans, beside those over the plans of an assignment.
-use Rattle.std.proofs.Common.{◌≡◌, ℕ, zero, suc, ◌+◌, ◌-◌, ◌<◌, ◌≤◌, Bool, true, false, cond, not, List, [], ◌∷◌, length, map, Option, Some, None, refl, sym, ap, ap₂, ◌∙◌, inl, inr, arith}
+use Rattle.std.proofs.Common.{◌≡◌, ℕ, zero, suc, ◌+◌, ◌-◌, ◌<◌, ◌≤◌, Bool, true, false, cond, not, List, [], ◌∷◌, length, map, Option, Some, None, refl, sym}
+use Rattle.std.proofs.Common.{ap, ap₂, ◌∙◌, inl, inr, arith}
 use Rattle.std.specs.Prelude.{ℤ, pos, ◌+ℤ◌, ◌-ℤ◌, ◌*ℤ◌, IsTrue, slice_index_or, nat_lt, filter, fold}
 use Rattle.std.specs.Int.{int_max, int_min}
 use Rattle.std.specs.List.{zip}
@@ -39,10 +40,12 @@ no_row (suc k) = refl
 soft_along_none : (cumuls : List ℤ) → soft_along [] cumuls ≡ pos 0
 soft_along_none cumuls = sum_nothing (soft_at [] cumuls) 0 (length cumuls) (λ k from low. ap (λ row. row_cost row (number_at cumuls k)) (no_row k))
 
-soft_along_rest : (row : Option StopRow) (rows : List (Option StopRow)) (x : ℤ) (xs : List ℤ) → soft_along rows xs ≡ sum_range (soft_at (row ∷ rows) (x ∷ xs)) 1 (length xs)
+soft_along_rest : (row : Option StopRow) (rows : List (Option StopRow)) (x : ℤ) (xs : List ℤ)
+    → soft_along rows xs ≡ sum_range (soft_at (row ∷ rows) (x ∷ xs)) 1 (length xs)
 soft_along_rest row rows x xs = sym (
     sum_shift (soft_at (row ∷ rows) (x ∷ xs)) 1 0 (length xs)
-    ∙ sum_same (λ k. soft_at (row ∷ rows) (x ∷ xs) (1 + k)) (soft_at rows xs) 0 (length xs) (λ k from low. (let e : 1 + k ≡ suc k = omega arith in ap (soft_at (row ∷ rows) (x ∷ xs)) e)))
+    ∙ sum_same (λ k. soft_at (row ∷ rows) (x ∷ xs) (1 + k)) (soft_at rows xs) 0 (length xs)
+    (λ k from low. (let e : 1 + k ≡ suc k = omega arith in ap (soft_at (row ∷ rows) (x ∷ xs)) e)))
 
 -- a sum over two lists side by side is one over the places of the second
 soft_by_places : (rows : List (Option StopRow)) (cumuls : List ℤ) → total_by (λ stop. row_cost stop.0 stop.1) (zip rows cumuls) ≡ soft_along rows cumuls
@@ -108,11 +111,13 @@ module _ (model : Model) (routes : List PrintedRoute) (shaped : IsTrue (are_rout
   module _ (v : ℕ) (low : v < length routes) where
     -- an unused vehicle has no plans
     pub unused_plans : is_empty (route (lists_of routes) v) ≡ true → length (route_at routes v).plans ≡ 0
-    unused_plans e = no_plans model v (route_at routes v) (shaped_at v low) (no_visits (visits_of (route_at routes v)) (sym (ap is_empty (route_is routes v)) ∙ e))
+    unused_plans e =
+        no_plans model v (route_at routes v) (shaped_at v low) (no_visits (visits_of (route_at routes v)) (sym (ap is_empty (route_is routes v)) ∙ e))
 
     -- a used one has one in each dimension
     pub used_plans : is_empty (route (lists_of routes) v) ≡ false → length (route_at routes v).plans ≡ length model.dimensions
-    used_plans e = plans_there model v (route_at routes v) (shaped_at v low) (long_enough (visits_of (route_at routes v)) (sym (ap is_empty (route_is routes v)) ∙ e))
+    used_plans e =
+        plans_there model v (route_at routes v) (shaped_at v low) (long_enough (visits_of (route_at routes v)) (sym (ap is_empty (route_is routes v)) ∙ e))
 
   -- a sum over used vehicles and dimensions is one over the plans that are printed
   pub over_plans_is : (f : ℕ → ℕ → ℤ) (g : ℕ → PrintedRoute → ℕ → ℤ)
@@ -121,12 +126,14 @@ module _ (model : Model) (routes : List PrintedRoute) (shaped : IsTrue (are_rout
   over_plans_is f g same =
       total_by-failing by_vehicle (λ v. is_empty (route (lists_of routes) v)) (below (length (lists_of routes)))
       ∙ ap (λ n. total_by (λ v. cond (is_empty (route (lists_of routes) v)) (pos 0) (by_vehicle v)) (below n)) (length-map routes visits_of)
-      ∙ sum_same (λ v. cond (is_empty (route (lists_of routes) v)) (pos 0) (by_vehicle v)) (over_printed routes g) 0 (length routes) (λ v from low. one v (omega (arith, low)) (is_empty (route (lists_of routes) v)) refl)
+      ∙ sum_same (λ v. cond (is_empty (route (lists_of routes) v)) (pos 0) (by_vehicle v)) (over_printed routes g)
+      0 (length routes) (λ v from low. one v (omega (arith, low)) (is_empty (route (lists_of routes) v)) refl)
     where
       by_vehicle : ℕ → ℤ
       by_vehicle v = total_by (λ d. f d v) (below (length model.dimensions))
 
-      one : (v : ℕ) → v < length routes → (b : Bool) → is_empty (route (lists_of routes) v) ≡ b → cond (is_empty (route (lists_of routes) v)) (pos 0) (by_vehicle v) ≡ over_printed routes g v
+      one : (v : ℕ) → v < length routes → (b : Bool) → is_empty (route (lists_of routes) v) ≡ b
+          → cond (is_empty (route (lists_of routes) v)) (pos 0) (by_vehicle v) ≡ over_printed routes g v
       one v low true e = ap (λ b. cond b (pos 0) (by_vehicle v)) e ∙ ap (λ n. total_by (g v (route_at routes v)) (below n)) (sym (unused_plans v low e))
       one v low false e =
           let planned = used_plans v low e in
@@ -138,7 +145,8 @@ module _ (model : Model) (routes : List PrintedRoute) (shaped : IsTrue (are_rout
 
   pub soft_is : soft_part model (assignment_of routes) ≡ total_by (over_printed routes (soft_in model)) (below (length routes))
   soft_is = over_plans_is (soft_costs model (assignment_of routes)) (soft_in model) (λ d v low less.
-      ap₂ (λ list plan. total_by (λ stop. row_cost stop.0 stop.1) (zip (stop_rows (dimension_at model d) v list) plan.cumuls)) (route_is routes v) (plan_is_printed routes d v)
+      ap₂ (λ list plan. total_by (λ stop. row_cost stop.0 stop.1) (zip (stop_rows (dimension_at model d) v list) plan.cumuls))
+      (route_is routes v) (plan_is_printed routes d v)
       ∙ soft_by_places (stop_rows (dimension_at model d) v (visits_of (route_at routes v))) (plan_in (route_at routes v) d).cumuls)
 
   -- ---- starts and ends
@@ -150,7 +158,8 @@ module _ (model : Model) (routes : List PrintedRoute) (shaped : IsTrue (are_rout
     pub end_is : end_at (assignment_of routes) d v ≡ last_cumul (plan_in (route_at routes v) d).cumuls
     end_is =
         let lengths = lengths_of model v (route_at routes v) (shaped_at v low) d less in
-        let place : suc (length (visits_of (route_at routes v))) ≡ length (plan_in (route_at routes v) d).cumuls - 1 = omega (arith, lengths.cumuls, lengths.nodes, visits_long (route_at routes v).nodes) in
+        let place : suc (length (visits_of (route_at routes v))) ≡ length (plan_in (route_at routes v) d).cumuls - 1 =
+        omega (arith, lengths.cumuls, lengths.nodes, visits_long (route_at routes v).nodes) in
         ap₂ (λ plan list. cumul plan (suc (length list))) (plan_is_printed routes d v) (route_is routes v)
         ∙ ap (number_at (plan_in (route_at routes v) d).cumuls) place
 
@@ -159,22 +168,27 @@ module _ (model : Model) (routes : List PrintedRoute) (shaped : IsTrue (are_rout
     cumuls_there = let lengths = lengths_of model v (route_at routes v) (shaped_at v low) d less in omega (arith, lengths.cumuls, lengths.nodes)
 
   pub span_is : span_part model (assignment_of routes) ≡ total_by (over_printed routes (span_in model)) (below (length routes))
-  span_is = over_plans_is (λ d v. number_at (dimension_at model d).span_costs v *ℤ (end_at (assignment_of routes) d v -ℤ start_at (assignment_of routes) d v)) (span_in model) (λ d v low less.
+  span_is =
+      over_plans_is (λ d v. number_at (dimension_at model d).span_costs v *ℤ (end_at (assignment_of routes) d v -ℤ start_at (assignment_of routes) d v))
+      (span_in model) (λ d v low less.
       ap₂ (λ last first. number_at (dimension_at model d).span_costs v *ℤ (last -ℤ first)) (end_is d v low less) (start_is d v low less))
 
   -- ---- the span of all routes
 
   -- the ends of the routes so far, with those of further vehicles
   pub span_next : (d v : ℕ) → v < length routes → d < length model.dimensions → (ends : Option SpanEnds)
-      → span_from (assignment_of routes) d (ends_with d ends (route_at routes v)) (filter (is_used routes) (from_to (v + 1) (length routes))) ≡ span_from (assignment_of routes) d ends (filter (is_used routes) (from_to v (length routes)))
+      → span_from (assignment_of routes) d (ends_with d ends (route_at routes v)) (filter (is_used routes) (from_to (v + 1) (length routes)))
+      ≡ span_from (assignment_of routes) d ends (filter (is_used routes) (from_to v (length routes)))
   span_next d v low known ends = go (is_empty (route (lists_of routes) v)) refl
     where
       go : (b : Bool) → is_empty (route (lists_of routes) v) ≡ b
-          → span_from (assignment_of routes) d (ends_with d ends (route_at routes v)) (filter (is_used routes) (from_to (v + 1) (length routes))) ≡ span_from (assignment_of routes) d ends (filter (is_used routes) (from_to v (length routes)))
+          → span_from (assignment_of routes) d (ends_with d ends (route_at routes v)) (filter (is_used routes) (from_to (v + 1) (length routes)))
+          ≡ span_from (assignment_of routes) d ends (filter (is_used routes) (from_to v (length routes)))
       go true e =
           let none : nat_lt d (length (route_at routes v).plans) ≡ false = ap (nat_lt d) (unused_plans v low e) ∙ not_less d in
           let cumuls = (plan_in (route_at routes v) d).cumuls in
-          ap (λ b. span_from (assignment_of routes) d (cond b (Some (widened ends (first_cumul cumuls) (last_cumul cumuls))) ends) (filter (is_used routes) (from_to (v + 1) (length routes)))) none
+          ap (λ b. span_from (assignment_of routes) d (cond b (Some (widened ends (first_cumul cumuls) (last_cumul cumuls))) ends)
+          (filter (is_used routes) (from_to (v + 1) (length routes)))) none
           ∙ ap (span_from (assignment_of routes) d ends) (sym (leaves_out (is_used routes) v (length routes) low (ap not e)))
       go false e =
           let less : d < length (route_at routes v).plans = omega (arith, known, used_plans v low e) in
@@ -182,14 +196,18 @@ module _ (model : Model) (routes : List PrintedRoute) (shaped : IsTrue (are_rout
           let cumuls = (plan_in (route_at routes v) d).cumuls in
           let rest = filter (is_used routes) (from_to (v + 1) (length routes)) in
           ap (λ b. span_from (assignment_of routes) d (cond b (Some (widened ends (first_cumul cumuls) (last_cumul cumuls))) ends) rest) some
-          ∙ ap₂ (λ first last. span_from (assignment_of routes) d (Some (widened ends first last)) rest) (sym (start_is d v low less)) (sym (end_is d v low less))
+          ∙ ap₂ (λ first last. span_from (assignment_of routes) d (Some (widened ends first last)) rest)
+          (sym (start_is d v low less)) (sym (end_is d v low less))
           ∙ sym (span_opens (assignment_of routes) d ends v rest)
           ∙ ap (span_from (assignment_of routes) d ends) (sym (keeps (is_used routes) v (length routes) low (ap not e)))
 
-  pub span_begins : (d : ℕ) → span_from (assignment_of routes) d None (filter (is_used routes) (from_to 0 (length routes))) ≡ global_span (assignment_of routes) d
+  pub span_begins : (d : ℕ)
+      → span_from (assignment_of routes) d None (filter (is_used routes) (from_to 0 (length routes))) ≡ global_span (assignment_of routes) d
   span_begins d =
       ap (λ n. span_from (assignment_of routes) d None (filter (is_used routes) (from_to 0 n))) (sym (length-map routes visits_of))
       ∙ ap (span_from (assignment_of routes) d None) (walk_begins (filter (is_used routes)) (length (lists_of routes)))
 
-  pub span_done : (d v : ℕ) → length routes ≤ v → (ends : Option SpanEnds) → span_from (assignment_of routes) d ends (filter (is_used routes) (from_to v (length routes))) ≡ span_of_ends ends
-  span_done d v high ends = ap (λ vs. span_from (assignment_of routes) d ends (filter (is_used routes) vs)) (none_left v (length routes) high) ∙ span_closes (assignment_of routes) d ends
+  pub span_done : (d v : ℕ) → length routes ≤ v → (ends : Option SpanEnds)
+      → span_from (assignment_of routes) d ends (filter (is_used routes) (from_to v (length routes))) ≡ span_of_ends ends
+  span_done d v high ends = ap (λ vs. span_from (assignment_of routes) d ends (filter (is_used routes) vs)) (none_left v (length routes) high)
+      ∙ span_closes (assignment_of routes) d ends

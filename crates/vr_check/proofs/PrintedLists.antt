@@ -1,5 +1,6 @@
 -- The printed lists, where the rules on them find nothing.
-use Rattle.std.proofs.Common.{◌≡◌, ℕ, suc, ◌+◌, ◌-◌, ◌<◌, ◌≤◌, Bool, true, false, cond, ◌&&◌, ◌==◌, List, [], ◌∷◌, ◌++◌, length, get_or, take, drop, refl, ap, sym, subst, ◌∙◌, arith}
+use Rattle.std.proofs.Common.{◌≡◌, ℕ, suc, ◌+◌, ◌-◌, ◌<◌, ◌≤◌, Bool, true, false, cond, ◌&&◌, ◌==◌, List, [], ◌∷◌, ◌++◌, length, get_or, take, drop, refl, ap}
+use Rattle.std.proofs.Common.{sym, subst, ◌∙◌, arith}
 use Rattle.std.specs.Prelude.{IsTrue, None, nat_le, pos, slice_index_or}
 use Rattle.std.specs.List.{list_all}
 use Rattle.std.proofs.Math.ListN.{get_or-map}
@@ -33,7 +34,8 @@ HasVisits model lists = (v : ℕ) → v < length lists → IsTrue (list_all (is_
 
 -- where the ends are right, the entries between them are visits
 pub ends_visits : (model : Model) (routes : List PrintedRoute) → ends_broken model routes ≡ None → HasVisits model (lists_of routes)
-ends_visits model routes h v low = subst (λ list. IsTrue (list_all (is_visit model) list)) (sym (route_is routes v)) (all_at (is_visit model) 0 (visits_between nodes) there)
+ends_visits model routes h v low =
+    subst (λ list. IsTrue (list_all (is_visit model) list)) (sym (route_is routes v)) (all_at (is_visit model) 0 (visits_between nodes) there)
   where
     nodes : List ℕ
     nodes = nodes_at routes v
@@ -44,7 +46,8 @@ ends_visits model routes h v low = subst (λ list. IsTrue (list_all (is_visit mo
         let found = at_none (ends_broken_in model routes) (length routes) h v (omega (arith, low, length-map routes visits_of)) in
         let here = at_none (ends_broken_at model v (nodes_at routes v)) (length (nodes_at routes v)) found (1 + k) (omega (arith, short)) in
         let good = is_right (is_right_node model v (nodes_at routes v) (1 + k)) (spot v (1 + k)) here in
-        let visit = third_case (1 + k == 0) (1 + k + 1 == length (nodes_at routes v)) (node_at (nodes_at routes v) (1 + k) == (vehicle_at model v).start) (node_at (nodes_at routes v) (1 + k) == (vehicle_at model v).end) (is_visit model (node_at (nodes_at routes v) (1 + k))) good
+        let visit = third_case (1 + k == 0) (1 + k + 1 == length (nodes_at routes v)) (node_at (nodes_at routes v) (1 + k) == (vehicle_at model v).start)
+        (node_at (nodes_at routes v) (1 + k) == (vehicle_at model v).end) (is_visit model (node_at (nodes_at routes v) (1 + k))) good
         (ne_eqb (1 + k) 0 (λ e. absurd (omega (arith, e)))) (ne_eqb (1 + k + 1) (length (nodes_at routes v)) (λ e. absurd (omega (arith, e, short)))) in
         subst (λ node. is_visit model node ≡ true) (sym (between (nodes_at routes v) k short)) visit
 
@@ -63,7 +66,8 @@ with_ends (x ∷ y ∷ rest) long =
     let two : length (x ∷ y ∷ rest) - 2 ≡ length rest = omega arith in
     let one : length (x ∷ y ∷ rest) - 1 ≡ suc (length rest) = omega arith in
     let last : get_or (x ∷ y ∷ rest) (length (x ∷ y ∷ rest) - 1) 0 ≡ get_or (y ∷ rest) (length rest) 0 = ap (λ k. get_or (x ∷ y ∷ rest) k 0) one in
-    ap (λ xs. x ∷ xs) (sym (ap (λ n. take n (y ∷ rest) ++ get_or (x ∷ y ∷ rest) (length (x ∷ y ∷ rest) - 1) 0 ∷ []) two ∙ ap (λ node. take (length rest) (y ∷ rest) ++ node ∷ []) last ∙ all_but_last y rest))
+    ap (λ xs. x ∷ xs) (sym (ap (λ n. take n (y ∷ rest) ++ get_or (x ∷ y ∷ rest) (length (x ∷ y ∷ rest) - 1) 0 ∷ []) two
+    ∙ ap (λ node. take (length rest) (y ∷ rest) ++ node ∷ []) last ∙ all_but_last y rest))
 
 some_nodes : (nodes : List ℕ) → is_empty nodes ≡ false → 0 < length nodes
 some_nodes [] some = absurd cc
@@ -90,7 +94,9 @@ ends_stops model routes shaped h v low some =
     λ k less. is_right (is_right_node model v nodes k) (spot v k) (at_none (ends_broken_at model v nodes) (length nodes) found k less) in
     let first = eq_of_test (node_at nodes 0) (vehicle_at model v).start (right 0 (omega (arith, long))) in
     let k = length nodes - 1 in
-    let last = eq_of_test (node_at nodes k) (vehicle_at model v).end (second_case (k == 0) (k + 1 == length nodes) (node_at nodes k == (vehicle_at model v).start) (node_at nodes k == (vehicle_at model v).end) (is_visit model (node_at nodes k)) (right k (omega (arith, long)))
+    let last = eq_of_test (node_at nodes k) (vehicle_at model v).end
+    (second_case (k == 0) (k + 1 == length nodes) (node_at nodes k == (vehicle_at model v).start)
+    (node_at nodes k == (vehicle_at model v).end) (is_visit model (node_at nodes k)) (right k (omega (arith, long)))
     (ne_eqb k 0 (λ e. absurd (omega (arith, e, long)))) (test_of_eq (k + 1) (length nodes) (omega (arith, long)))) in
     with_ends nodes (omega (arith, long))
     ∙ ap (λ node. node ∷ (visits_between nodes ++ node_at nodes k ∷ [])) first

@@ -17,5 +17,7 @@ scaled (suc n) b h =
 
 -- a coefficient of up to 2^40 times a number that lies within 2^66
 pub product_within : (a b : ℤ) → IsIn (pos 0) greatest_cost a → IsAround (2 ^ 66) b → IsAround (2 ^ 106) (a *ℤ b)
-product_within (pos n) b range h = let r = scaled n b h in record { at_least = omega (arith, ints, r.at_least, range.at_most); at_most = omega (arith, ints, r.at_most, range.at_most) }
+product_within (pos n) b range h =
+    let r = scaled n b h in
+    record { at_least = omega (arith, ints, r.at_least, range.at_most); at_most = omega (arith, ints, r.at_most, range.at_most) }
 product_within (negsuc n) b range h = absurd (omega (arith, ints, range.at_least))

@@ -20,16 +20,21 @@ pub record IsSum (f : ℕ → ℤ) (width n : ℕ) (total : ℤ) : Type 0 where
   pub range : IsAround (width * n) total
 
 -- one term more, where the sum has room in 128 bits
-pub one_more : (f : ℕ → ℤ) (width n : ℕ) {total : ℤ} (term : ℤ) → IsSum f width n total → term ≡ f n → IsAround width term → width * (n + 1) < 170141183460469231731687303715884105728 → IsSum f width (n + 1) (read128 (total +ℤ read128 term))
+pub one_more : (f : ℕ → ℤ) (width n : ℕ) {total : ℤ} (term : ℤ) → IsSum f width n total → term ≡ f n → IsAround width term
+    → width * (n + 1) < 170141183460469231731687303715884105728 → IsSum f width (n + 1) (read128 (total +ℤ read128 term))
 one_more f width n {total} term so_far value range room =
     let more = total_by-more f n in
     let next : n + 1 ≡ suc n = omega arith in
     let wider : width * (n + 1) ≡ width * n + width = ap (λ m. width * m) next ∙ mul-suc width n in
     let as_it_is : read128 term ≡ term = omega (arith, ints, range.at_least, range.at_most, wider, room) in
-    let is : read128 (total +ℤ read128 term) ≡ total +ℤ term = omega (arith, ints, as_it_is, so_far.range.at_least, so_far.range.at_most, range.at_least, range.at_most, wider, room) in
+    let is : read128 (total +ℤ read128 term) ≡ total +ℤ term =
+    omega (arith, ints, as_it_is, so_far.range.at_least, so_far.range.at_most, range.at_least, range.at_most, wider, room) in
     record {
       sum = omega (arith, ints, is, so_far.sum, value, more);
-      range = record { at_least = omega (arith, ints, is, wider, so_far.range.at_least, range.at_least); at_most = omega (arith, ints, is, wider, so_far.range.at_most, range.at_most) };
+      range = record {
+        at_least = omega (arith, ints, is, wider, so_far.range.at_least, range.at_least);
+        at_most = omega (arith, ints, is, wider, so_far.range.at_most, range.at_most);
+      };
     }
 
 -- a sum over one entry more of a list

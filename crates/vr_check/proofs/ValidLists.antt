@@ -1,5 +1,6 @@
 -- No rule on active visits, pairs or vehicles finds anything in valid lists.
-use Rattle.std.proofs.Common.{◌≡◌, ◌∙◌, ℕ, zero, suc, ◌+◌, ◌<◌, ◌≤◌, Bool, true, false, cond, not, ◌&&◌, ◌||◌, List, [], ◌∷◌, length, filter, Option, None, refl, sym, ap, subst, inl, inr, arith}
+use Rattle.std.proofs.Common.{◌≡◌, ◌∙◌, ℕ, zero, suc, ◌+◌, ◌<◌, ◌≤◌, Bool, true, false, cond, not, ◌&&◌, ◌||◌, List, [], ◌∷◌, length, filter, Option, None}
+use Rattle.std.proofs.Common.{refl, sym, ap, subst, inl, inr, arith}
 use Rattle.std.specs.Prelude.{IsTrue, slice_index_or}
 use Rattle.std.specs.List.{list_all, range_with_len}
 use Rattle.std.proofs.lemmas.Bool.{cases_lt}
@@ -7,7 +8,8 @@ use Rattle.vr_model.specs.tables.Numbers.{below}
 use Rattle.vr_model.specs.tables.Tables.{is_visit, vehicle_at, pair_at}
 use Rattle.vr_model.specs.deciding.Testing.{and_left, and_right, and_both, list_all_range}
 use Rattle.vr_model.specs.routes.Routes.{route, holds, is_active, are_lists, vehicles}
-use Rattle.vr_model.specs.routes.Rules.{is_valid, is_open, is_route_open, serves_pair, keeps_policy, policy_allows, allows_vehicle, is_grouped, fits_group, has_enough, active_in, has_required}
+use Rattle.vr_model.specs.routes.Rules.{is_valid, is_open, is_route_open, serves_pair, keeps_policy, policy_allows, allows_vehicle, is_grouped, fits_group}
+use Rattle.vr_model.specs.routes.Rules.{has_enough, active_in, has_required}
 use Rattle.vr_model.specs.schedules.Lines.{line}
 use Rattle.vr_model.specs.schedules.Choices.{is_feasible}
 use Rattle.vr_model.specs.declared.records.Model.{Model}
@@ -22,7 +24,8 @@ use Rattle.vr_check.specs.Pairs.{is_served, pair_broken_at, pair_broken, policy_
 
 in_range : {B : Type 0} (f : ℕ → Option B) (a n : ℕ) → ((k : ℕ) → a ≤ k → k < a + n → f k ≡ None) → first_finding f (range_with_len a n) ≡ None
 in_range f a zero h = refl
-in_range f a (suc n) h = ap (λ o. earlier o (first_finding f (range_with_len (a + 1) n))) (h a (omega arith) (omega arith)) ∙ in_range f (a + 1) n (λ k from low. h k (omega (arith, from)) (omega (arith, low)))
+in_range f a (suc n) h = ap (λ o. earlier o (first_finding f (range_with_len (a + 1) n))) (h a (omega arith) (omega arith))
+    ∙ in_range f (a + 1) n (λ k from low. h k (omega (arith, from)) (omega (arith, low)))
 
 pub nothing : {B : Type 0} (f : ℕ → Option B) (n : ℕ) → ((k : ℕ) → k < n → f k ≡ None) → first_finding f (below n) ≡ None
 nothing f n h = in_range f 0 n (λ k from low. h k (omega (arith, low)))
@@ -62,13 +65,16 @@ module _ (model : Model) (lists : List (List ℕ)) (valid : IsTrue (is_valid mod
 
   pub open_at : (v : ℕ) → v < length lists → IsTrue (is_route_open model v (route lists v))
   unfolding is_open
-  open_at v low = list_all_range (λ v. is_route_open model v (route lists v)) 0 (length lists) (and_left (list_all (λ v. is_route_open model v (route lists v)) (vehicles lists)) _ opened) v (omega arith) (omega (arith, low))
+  open_at v low = list_all_range (λ v. is_route_open model v (route lists v)) 0 (length lists)
+      (and_left (list_all (λ v. is_route_open model v (route lists v)) (vehicles lists)) _ opened) v (omega arith) (omega (arith, low))
 
   pub nothing_required : required_broken model lists ≡ None
   nothing_required = nothing (required_broken_at model lists) model.nodes (λ node low. ap (λ b. where_wrong b (spot_of_none node))
-      (missing (is_visit model node) (is_active lists node) (is_grouped model node) (λ visit. kept 0 model.nodes required node (omega arith) (omega (arith, low)) visit)))
+      (missing (is_visit model node) (is_active lists node) (is_grouped model node)
+      (λ visit. kept 0 model.nodes required node (omega arith) (omega (arith, low)) visit)))
     where
-      kept : (a n : ℕ) → IsTrue (list_all (λ node. is_grouped model node || is_active lists node) (filter (is_visit model) (range_with_len a n))) → (node : ℕ) → a ≤ node → node < a + n → is_visit model node ≡ true
+      kept : (a n : ℕ) → IsTrue (list_all (λ node. is_grouped model node || is_active lists node) (filter (is_visit model) (range_with_len a n)))
+          → (node : ℕ) → a ≤ node → node < a + n → is_visit model node ≡ true
           → (is_grouped model node || is_active lists node) ≡ true
       kept a zero h node from low visit = absurd (omega (arith, from, low))
       kept a (suc n) h node from low visit = by (is_visit model a) refl h (kept (a + 1) n)
@@ -97,7 +103,8 @@ module _ (model : Model) (lists : List (List ℕ)) (valid : IsTrue (is_valid mod
       missing true false false h = absurd (clash false (h refl) refl)
 
   pub nothing_in_groups : group_broken model lists ≡ None
-  nothing_in_groups = nothing (group_broken_at model lists) (length model.groups) (λ g low. right_place (has_right_number lists (slice_index_or model.groups g no_group)) g
+  nothing_in_groups =
+      nothing (group_broken_at model lists) (length model.groups) (λ g low. right_place (has_right_number lists (slice_index_or model.groups g no_group)) g
       (and_both _ _ (all-from_list_all (fits_group lists) model.groups fitting g no_group low)
       (all-from_list_all (λ group. has_enough group.penalty group.max (active_in lists group)) model.groups enough g no_group low)))
 
@@ -118,7 +125,8 @@ module _ (model : Model) (lists : List (List ℕ)) (valid : IsTrue (is_valid mod
           all-from_list_all (serves_pair list) model.pairs (and_left (list_all (serves_pair list) model.pairs) _ rest) p _ low
 
   pub nothing_of_policies : policy_broken model lists ≡ None
-  nothing_of_policies = nothing (policy_broken_in model lists) (length lists) (λ v low. right_vehicle (keeps_policy model v (route lists v)) v (kept v (route lists v) (open_at v low)))
+  nothing_of_policies = nothing (policy_broken_in model lists) (length lists)
+      (λ v low. right_vehicle (keeps_policy model v (route lists v)) v (kept v (route lists v) (open_at v low)))
     where
       no_pairs : (pairs : List Pair) → filter (λ pair. holds [] pair.pickup) pairs ≡ []
       no_pairs [] = refl
@@ -133,7 +141,8 @@ module _ (model : Model) (lists : List (List ℕ)) (valid : IsTrue (is_valid mod
 
   pub nothing_of_vehicles : allowed_broken model lists ≡ None
   nothing_of_vehicles = nothing (allowed_broken_in model lists) (length lists) (λ v low.
-      nothing (allowed_broken_at model v (route lists v)) (length (route lists v)) (λ k here. right (allows_vehicle model v (node_at (route lists v) k)) v (k + 1)
+      nothing (allowed_broken_at model v (route lists v)) (length (route lists v))
+      (λ k here. right (allows_vehicle model v (node_at (route lists v) k)) v (k + 1)
       (all-from_list_all (allows_vehicle model v) (route lists v) (kept v (route lists v) (open_at v low)) k 0 here)))
     where
       kept : (v : ℕ) (list : List ℕ) → IsTrue (is_route_open model v list) → list_all (allows_vehicle model v) list ≡ true

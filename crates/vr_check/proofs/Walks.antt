@@ -1,5 +1,6 @@
 -- Walks along lists, from place k on.
-use Rattle.std.proofs.Common.{◌≡◌, ℕ, zero, suc, ◌+◌, ◌-◌, ◌<◌, ◌≤◌, Bool, true, false, not, cond, ◌&&◌, ◌==◌, List, [], ◌∷◌, length, get_or, take, drop, map, refl, sym, ap, ap₂, ◌∙◌, arith}
+use Rattle.std.proofs.Common.{◌≡◌, ℕ, zero, suc, ◌+◌, ◌-◌, ◌<◌, ◌≤◌, Bool, true, false, not, cond, ◌&&◌, ◌==◌, List, [], ◌∷◌, length, get_or, take, drop, map}
+use Rattle.std.proofs.Common.{refl, sym, ap, ap₂, ◌∙◌, arith}
 use Rattle.std.specs.Prelude.{filter, nat_lt, slice_index_or}
 use Rattle.std.specs.List.{list_all}
 use Rattle.std.proofs.lemmas.List.{drop_more, drop_all, take_all, length-drop}
@@ -22,7 +23,8 @@ rest_of xs k = take_all (length xs - k) (drop k xs) (omega (arith, length-drop k
 -- ---- a node before another
 
 module _ (list : List ℕ) (k : ℕ) (low : k < length list) (first second : ℕ) where
-  before_opened : comes_before (drop k list) first second ≡ cond (get_or list k 0 == first) (holds (drop (k + 1) list) second) (comes_before (drop (k + 1) list) first second)
+  before_opened : comes_before (drop k list) first second
+      ≡ cond (get_or list k 0 == first) (holds (drop (k + 1) list) second) (comes_before (drop (k + 1) list) first second)
   before_opened = ap (λ l. comes_before l first second) (drop_more list k 0 low)
 
   pub before_here : (get_or list k 0 == first) ≡ true → comes_before (drop k list) first second ≡ holds (drop (k + 1) list) second
@@ -71,13 +73,16 @@ same_more : (k n : ℕ) → (k == n) ≡ (suc k == suc n)
 same_more k n = grind arith
 
 -- the next entry is this one
-pub same_next : (xs rest : List ℕ) (k x : ℕ) → (nat_lt k (length xs) && (slice_index_or xs k 0 == x)) ≡ true → is_same (drop k xs) (x ∷ rest) ≡ is_same (drop (k + 1) xs) rest
+pub same_next : (xs rest : List ℕ) (k x : ℕ) → (nat_lt k (length xs) && (slice_index_or xs k 0 == x)) ≡ true
+    → is_same (drop k xs) (x ∷ rest) ≡ is_same (drop (k + 1) xs) rest
 same_next [] rest k x h = absurd (let f : false ≡ true → ⊥ = λ e. cc in f (none k x h))
   where
     none : (k x : ℕ) → (nat_lt k 0 && (slice_index_or [] k 0 == x)) ≡ true → false ≡ true
     none k x h = grind arith
 same_next (y ∷ ys) rest zero x h = ap (λ b. b && is_same ys rest) (and_right (nat_lt 0 (length (y ∷ ys))) (y == x) h)
-same_next (y ∷ ys) rest (suc k) x h = let e : suc k + 1 ≡ suc (k + 1) = omega arith in same_next ys rest k x (sym (ap (λ b. b && (slice_index_or ys k 0 == x)) (less_more k (length ys))) ∙ h) ∙ ap (λ n. is_same (drop n (y ∷ ys)) rest) (sym e)
+same_next (y ∷ ys) rest (suc k) x h =
+    let e : suc k + 1 ≡ suc (k + 1) = omega arith in
+    same_next ys rest k x (sym (ap (λ b. b && (slice_index_or ys k 0 == x)) (less_more k (length ys))) ∙ h) ∙ ap (λ n. is_same (drop n (y ∷ ys)) rest) (sym e)
 
 -- the next entry is another one, or there is none
 pub other_next : (xs rest : List ℕ) (k x : ℕ) → (nat_lt k (length xs) && (slice_index_or xs k 0 == x)) ≡ false → is_same (drop k xs) (x ∷ rest) ≡ false
@@ -104,9 +109,11 @@ by_places Lifo list x y = refl
 by_places Fifo list x y = refl
 
 pub policy_by_places : (policy : Policy) (list : List ℕ) (pairs : List Pair)
-    → list_all (is_in_order policy (map (places_of list) pairs)) (map (places_of list) pairs) ≡ list_all (λ x. list_all (λ y. policy_allows policy list x y) pairs) pairs
+    → list_all (is_in_order policy (map (places_of list) pairs)) (map (places_of list) pairs)
+    ≡ list_all (λ x. list_all (λ y. policy_allows policy list x y) pairs) pairs
 policy_by_places policy list pairs =
     list_all-map (is_in_order policy (map (places_of list) pairs)) (places_of list) pairs
     ∙ list_all_same (λ x. is_in_order policy (map (places_of list) pairs) (places_of list x)) (λ x. list_all (λ y. policy_allows policy list x y) pairs)
     (λ x. list_all-map (are_pairs_in_order policy (places_of list x)) (places_of list) pairs
-    ∙ list_all_same (λ y. are_pairs_in_order policy (places_of list x) (places_of list y)) (λ y. policy_allows policy list x y) (by_places policy list x) pairs) pairs
+    ∙ list_all_same (λ y. are_pairs_in_order policy (places_of list x) (places_of list y))
+    (λ y. policy_allows policy list x y) (by_places policy list x) pairs) pairs

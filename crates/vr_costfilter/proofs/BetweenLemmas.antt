@@ -32,14 +32,16 @@ module _ (line : Line) (k : ℕ) (x : ℤ) (low : k < length line.allowed) where
   -- the other stops allow what they did
   other-allows : (i : ℕ) (run : Run) → i ≢ k → IsAllowedRun line i run → IsAllowedRun (pinned line k x) i run
   other-allows i run apart is = record {
-    exact = λ y. is.exact y ∙ ap (λ (test : ℤ → Bool). test y) (sym (get_or-set_other line.allowed k i (λ y. slice_index_or line.allowed k (λ _. false) y && is_same_number x y) (λ _. false) apart));
+    exact = λ y. is.exact y ∙ ap (λ (test : ℤ → Bool). test y)
+        (sym (get_or-set_other line.allowed k i (λ y. slice_index_or line.allowed k (λ _. false) y && is_same_number x y) (λ _. false) apart));
     ends = is.ends;
   }
 
   -- the stop itself allows the cumul of a schedule
   module _ (plan : Plan) (s : IsSchedule line plan) (at : cumul plan k ≡ x) where
     there : IsTrue (slice_index_or line.allowed k (λ _. false) x)
-    there = subst (λ y. IsTrue (slice_index_or line.allowed k (λ _. false) y)) at (and_parts (within (pos 0) horizon (cumul plan k)) _ (s.cumuls_allowed k low)).1
+    there =
+        subst (λ y. IsTrue (slice_index_or line.allowed k (λ _. false) y)) at (and_parts (within (pos 0) horizon (cumul plan k)) _ (s.cumuls_allowed k low)).1
 
     one : (y : ℤ) → in_run (only x) y ≡ (slice_index_or line.allowed k (λ _. false) y && is_same_number x y)
     one y = by (is_same_number x y) refl
@@ -64,13 +66,15 @@ module _ (line : Line) (k : ℕ) (x : ℤ) (low : k < length line.allowed) where
     stop-allows =
         let range = subst (IsIn (pos 0) horizon) at (cumul-in line k plan low s) in
         record {
-          exact = λ y. one y ∙ ap (λ (test : ℤ → Bool). test y) (sym (get_or-set_same line.allowed k (λ y. slice_index_or line.allowed k (λ _. false) y && is_same_number x y) (λ _. false) low));
+          exact = λ y. one y ∙ ap (λ (test : ℤ → Bool). test y)
+              (sym (get_or-set_same line.allowed k (λ y. slice_index_or line.allowed k (λ _. false) y && is_same_number x y) (λ _. false) low));
           ends = record { lo = range; hi = range };
         }
 
 -- ---- the line of a list
 
-module _ (model : Model) (d v : ℕ) (runs : Runs) (list : List ℕ) (L : Line) (by : AllowsRuns model d v runs list L) (s e : ℤ) (start : IsLatestStart L e s) where
+module _ (model : Model) (d v : ℕ) (runs : Runs) (list : List ℕ) (L : Line)
+    (by : AllowsRuns model d v runs list L) (s e : ℤ) (start : IsLatestStart L e s) where
   abbrev n : ℕ
   n = length L.arcs
 
@@ -109,7 +113,8 @@ module _ (model : Model) (d v : ℕ) (runs : Runs) (list : List ℕ) (L : Line) 
   middle-allows : (k : ℕ) → suc k < length L.arcs → IsAllowedRun (between L s e) (suc k) (run_at (stop_runs runs list) (suc k))
   middle-allows k low =
       other-allows ending 0 s start-low (suc k) (run_at (stop_runs runs list) (suc k)) (λ same. absurd (omega (arith, same)))
-      (other-allows L (length L.arcs) e end-low (suc k) (run_at (stop_runs runs list) (suc k)) (λ same. absurd (omega (arith, same, low))) (by.has.each (suc k) (omega (arith, low))))
+      (other-allows L (length L.arcs) e end-low (suc k) (run_at (stop_runs runs list) (suc k))
+      (λ same. absurd (omega (arith, same, low))) (by.has.each (suc k) (omega (arith, low))))
 
   -- the line between the ends allows the runs of visits, and of the ends these cumuls alone
   pub between-allows : AllowsRuns model d v (between_runs runs s e) list (between L s e)
@@ -129,7 +134,8 @@ module _ (model : Model) (d v : ℕ) (runs : Runs) (list : List ℕ) (L : Line) 
       each : (k : ℕ) → k ≤ length L.arcs → IsAllowedRun (between L s e) k (run_at (stop_runs (between_runs runs s e) list) k)
       each zero le = first-allows
       each (suc k) le = elim (either k (let m = all-arcs in omega (arith, m, le))) [
-        | inl low ↦ subst (IsAllowedRun (between L s e) (suc k)) (stop-visit runs list k low ∙ sym (stop-visit (between_runs runs s e) list k low)) (middle-allows k (let m = all-arcs in omega (arith, m, low)))
+        | inl low ↦ subst (IsAllowedRun (between L s e) (suc k)) (stop-visit runs list k low ∙ sym (stop-visit (between_runs runs s e) list k low))
+            (middle-allows k (let m = all-arcs in omega (arith, m, low)))
         | inr last ↦ (
             let end : IsAllowedRun (between L s e) (suc (length list)) (only e) = subst (λ i. IsAllowedRun (between L s e) i (only e)) all-arcs last-allows in
             let there = subst (IsAllowedRun (between L s e) (suc (length list))) (sym (stop-last (between_runs runs s e) list)) end in

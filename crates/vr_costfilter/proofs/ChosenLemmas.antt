@@ -26,20 +26,29 @@ use Rattle.vr_earliest.proofs.NoEarlier.{law}
 pub times-le : (c x y : ℤ) → pos 0 ≤ℤ c → x ≤ℤ y → (c *ℤ x) ≤ℤ (c *ℤ y)
 times-le (pos m) (pos a) (pos b) low le = let h : a ≤ b = omega (arith, ints, le) in let p : m * a ≤ m * b = mul-le-mul_left m h in omega (arith, ints, p)
 times-le (pos m) (negsuc a) (pos b) low le = omega (arith, ints)
-times-le (pos m) (negsuc a) (negsuc b) low le = let h : suc b ≤ suc a = omega (arith, ints, le) in let p : m * suc b ≤ m * suc a = mul-le-mul_left m h in omega (arith, ints, p)
+times-le (pos m) (negsuc a) (negsuc b) low le =
+    let h : suc b ≤ suc a = omega (arith, ints, le) in
+    let p : m * suc b ≤ m * suc a = mul-le-mul_left m h in
+    omega (arith, ints, p)
 times-le (pos m) (pos a) (negsuc b) low le = absurd (omega (arith, ints, le))
 times-le (negsuc m) x y low le = absurd (omega (arith, ints, low))
 
 -- the plan of a used vehicle of valid lists is chosen under its rule
-module _ (model : Model) (lists : List (List ℕ)) (valid : IsTrue (is_valid model lists)) (d v : ℕ) (low : d < length model.dimensions) (known : v < length lists) (used : is_empty (route lists v) ≡ false) where
+module _ (model : Model) (lists : List (List ℕ)) (valid : IsTrue (is_valid model lists)) (d v : ℕ)
+    (low : d < length model.dimensions) (known : v < length lists) (used : is_empty (route lists v) ≡ false) where
   opened : IsTrue (is_open model lists)
   unfolding is_valid
   opened = and_left (is_open model lists) _ (and_right (are_lists model lists) _ valid)
 
   chosen-plan : IsChosen (chosen_line model d v (route lists v)) (chosen_plan_of model d v (route lists v))
   chosen-plan =
-      let feasible = (chosen_under_where_feasible (vehicle_at model v).schedule (line model d v (route lists v)) (stops_of_line model d v (route lists v))).1 (plan_at (assigned model lists) d v, open_meets_its_lines model lists opened d v low known used) in
-      (chosen_is_least (chosen_line model d v (route lists v)) (chosen_plan_of model d v (route lists v))).0 (there (chosen (chosen_line model d v (route lists v))) feasible)
+      let feasible =
+      (chosen_under_where_feasible (vehicle_at model v).schedule (line model d v (route lists v)) (stops_of_line model d v (route lists v))).1 (
+        plan_at (assigned model lists) d v,
+        open_meets_its_lines model lists opened d v low known used,
+      ) in
+      (chosen_is_least (chosen_line model d v (route lists v)) (chosen_plan_of model d v (route lists v))).0
+      (there (chosen (chosen_line model d v (route lists v))) feasible)
     where
       there : (o : Option Plan) → IsTrue (is_some o) → o ≡ Some (unwrap_or o no_plan)
       there None h = absurd (let f : false ≡ true → ⊥ = λ e. Prim.cc in f h)

@@ -17,7 +17,8 @@ pub record IsCostOf (model : Model) (v : ℕ) (list : List ℕ) (cost : ℤ) : T
   pub range : IsPlanCost cost
 
 -- the cost of the list of vehicle v, as it stands in what is kept
-pub kept-cost : (kept : KeptPlans) (tours : Tours) → StandsPlans kept tours → (inside : List ℤ) → inside ≡ kept.costs → (v : ℕ) → v < length tours.lists → (cost : ℤ) → cost ≡ slice_index_or inside v cost
+pub kept-cost : (kept : KeptPlans) (tours : Tours) → StandsPlans kept tours → (inside : List ℤ)
+    → inside ≡ kept.costs → (v : ℕ) → v < length tours.lists → (cost : ℤ) → cost ≡ slice_index_or inside v cost
     → IsCostOf kept.model v (route tours.lists v) cost
 kept-cost kept tours h inside same v known cost read =
     let within : v < length inside = subst (λ n. v < n) (sym (ap length same ∙ h.many ∙ sym h.as_many)) known in
@@ -25,12 +26,15 @@ kept-cost kept tours h inside same v known cost read =
     record { value = is ∙ h.costs v known; range = subst IsPlanCost (sym is) (h.range v known) }
 
 -- that of the vehicle of part k of a change
-pub old-cost : (kept : KeptPlans) (tours : Tours) (parts : List ListAfter) → StandsPlans kept tours → AreParts tours.lists parts → (k : ℕ) → k < length parts → (inside : List ℤ) → inside ≡ kept.costs → (v : ℕ) → v ≡ (part_at parts k).vehicle
+pub old-cost : (kept : KeptPlans) (tours : Tours) (parts : List ListAfter) → StandsPlans kept tours → AreParts tours.lists parts
+    → (k : ℕ) → k < length parts → (inside : List ℤ) → inside ≡ kept.costs → (v : ℕ) → v ≡ (part_at parts k).vehicle
     → (cost : ℤ) → cost ≡ slice_index_or inside v cost → IsCostOf kept.model v (route tours.lists v) cost
-old-cost kept tours parts h are k low inside same v vehicle cost read = kept-cost kept tours h inside same v (subst (λ w. w < length tours.lists) (sym vehicle) (are.each_vehicle k no_part low)) cost read
+old-cost kept tours parts h are k low inside same v vehicle cost read =
+    kept-cost kept tours h inside same v (subst (λ w. w < length tours.lists) (sym vehicle) (are.each_vehicle k no_part low)) cost read
 
 -- the costs of the lists that the first parts give, and that of the next one
-pub costs-after-push : (model : Model) (lists : List (List ℕ)) (parts : List ListAfter) (k : ℕ) (costs more : List ℤ) (cost : ℤ) → AreCostsAfter model lists parts k costs → cost ≡ cost_after model lists (part_at parts k) → IsPlanCost cost
+pub costs-after-push : (model : Model) (lists : List (List ℕ)) (parts : List ListAfter) (k : ℕ) (costs more : List ℤ) (cost : ℤ)
+    → AreCostsAfter model lists parts k costs → cost ≡ cost_after model lists (part_at parts k) → IsPlanCost cost
     → more ≡ costs ++ cost ∷ [] → AreCostsAfter model lists parts (k + 1) more
 costs-after-push model lists parts k costs more cost h value range is = record {
   many = ap length is ∙ length-append costs (cost ∷ []) ∙ ap (λ n. n + 1) h.many;
@@ -39,7 +43,8 @@ costs-after-push model lists parts k costs more cost h value range is = record {
 }
 
 -- the cost of the list that part k of a change gives its vehicle v
-pub next-cost : (kept : KeptPlans) (tours : Tours) (parts : List ListAfter) → AreNextCosts kept tours parts → (model : Model) → kept.model ≡ model → (k : ℕ) → k < length parts → (v : ℕ) → v ≡ (part_at parts k).vehicle
+pub next-cost : (kept : KeptPlans) (tours : Tours) (parts : List ListAfter) → AreNextCosts kept tours parts
+    → (model : Model) → kept.model ≡ model → (k : ℕ) → k < length parts → (v : ℕ) → v ≡ (part_at parts k).vehicle
     → (cost : ℤ) → cost ≡ number_at kept.next k → IsCostOf model v (joined tours.lists (part_at parts k).pieces) cost
 next-cost kept tours parts next model same k low v vehicle cost is =
     let list : List ℕ = joined tours.lists (part_at parts k).pieces in

@@ -23,13 +23,15 @@ same-or-sooner k i le = Prim.grind arith
 module _ (line : Line) (runs : List Run) (are : HasRuns line runs) where
   -- ---- what bounds schedules
 
-  pub bounds : (plan : Plan) → IsSchedule line plan → (k : ℕ) → k ≤ length line.arcs → ((run_at runs k).lo ≤ℤ cumul plan k) × (cumul plan k ≤ℤ (run_at runs k).hi)
+  pub bounds : (plan : Plan) → IsSchedule line plan → (k : ℕ) → k ≤ length line.arcs
+      → ((run_at runs k).lo ≤ℤ cumul plan k) × (cumul plan k ≤ℤ (run_at runs k).hi)
   bounds plan s k le =
       within-run (cumul plan k) (s.cumuls_allowed k (omega (arith, are.stops, le)))
     where
       within-run : (x : ℤ) → IsTrue (allows line k x) → ((run_at runs k).lo ≤ℤ x) × (x ≤ℤ (run_at runs k).hi)
       within-run x there =
-          let inside : IsTrue (in_run (run_at runs k) x) = (are.each k le).exact x ∙ (and_parts (within (pos 0) horizon x) (slice_index_or line.allowed k (λ _. false) x) there).1 in
+          let inside : IsTrue (in_run (run_at runs k) x) = (are.each k le).exact x
+          ∙ (and_parts (within (pos 0) horizon x) (slice_index_or line.allowed k (λ _. false) x) there).1 in
           (grind (arith, ints, inside), grind (arith, ints, inside))
 
   onward : (plan : Plan) → IsSchedule line plan → (k : ℕ) → k < length line.arcs → (cumul plan k +ℤ (arc_at line k).transit) ≤ℤ cumul plan (suc k)
@@ -38,7 +40,8 @@ module _ (line : Line) (runs : List Run) (are : HasRuns line runs) where
       let none = (s.slacks_bounded k low).0 in
       omega (arith, ints, left, none)
 
-  most-on : (plan : Plan) → IsSchedule line plan → (k : ℕ) → k < length line.arcs → cumul plan (suc k) ≤ℤ ((cumul plan k +ℤ (arc_at line k).transit) +ℤ line.slack_max)
+  most-on : (plan : Plan) → IsSchedule line plan → (k : ℕ) → k < length line.arcs
+      → cumul plan (suc k) ≤ℤ ((cumul plan k +ℤ (arc_at line k).transit) +ℤ line.slack_max)
   most-on plan s k low =
       let left = s.slacks_left k low in
       let most = (s.slacks_bounded k low).1 in
@@ -77,16 +80,25 @@ module _ (line : Line) (runs : List Run) (are : HasRuns line runs) where
   low-time (suc k) = let m = int_max_is (time_at line runs k +ℤ (arc_at line k).transit) (run_at runs (suc k)).lo in omega (arith, ints, m)
 
   time-on : (k i : ℕ) → k ≤ i → (time_at line runs k -ℤ transits_to line k) ≤ℤ (time_at line runs i -ℤ transits_to line i)
-  time-on k zero le = let e : 0 ≡ k = omega (arith, le) in subst (λ j. (time_at line runs j -ℤ transits_to line j) ≤ℤ (time_at line runs 0 -ℤ transits_to line 0)) e (omega (arith, ints))
+  time-on k zero le =
+      let e : 0 ≡ k = omega (arith, le) in
+      subst (λ j. (time_at line runs j -ℤ transits_to line j) ≤ℤ (time_at line runs 0 -ℤ transits_to line 0)) e (omega (arith, ints))
   time-on k (suc i) le = elim (same-or-sooner k i le) [
-    | inl sooner ↦ (let before = time-on k i sooner in let m = int_max_is (time_at line runs i +ℤ (arc_at line i).transit) (run_at runs (suc i)).lo in omega (arith, ints, m, before))
-    | inr same ↦ subst (λ j. (time_at line runs j -ℤ transits_to line j) ≤ℤ (time_at line runs (suc i) -ℤ transits_to line (suc i))) (sym same) (omega (arith, ints))
+    | inl sooner ↦ (let before = time-on k i sooner in
+        let m = int_max_is (time_at line runs i +ℤ (arc_at line i).transit) (run_at runs (suc i)).lo in
+        omega (arith, ints, m, before))
+    | inr same ↦
+        subst (λ j. (time_at line runs j -ℤ transits_to line j) ≤ℤ (time_at line runs (suc i) -ℤ transits_to line (suc i))) (sym same) (omega (arith, ints))
   ]
 
   latest-on : (k i : ℕ) → k ≤ i → (latest_to line runs i +ℤ transits_to line k) ≤ℤ (run_at runs k).hi
-  latest-on k zero le = let e : 0 ≡ k = omega (arith, le) in subst (λ j. (latest_to line runs 0 +ℤ transits_to line j) ≤ℤ (run_at runs j).hi) e (omega (arith, ints))
+  latest-on k zero le =
+      let e : 0 ≡ k = omega (arith, le) in
+      subst (λ j. (latest_to line runs 0 +ℤ transits_to line j) ≤ℤ (run_at runs j).hi) e (omega (arith, ints))
   latest-on k (suc i) le = elim (same-or-sooner k i le) [
-    | inl sooner ↦ (let before = latest-on k i sooner in let m = int_min_is (latest_to line runs i) ((run_at runs (suc i)).hi -ℤ transits_to line (suc i)) in omega (arith, ints, m, before))
+    | inl sooner ↦ (let before = latest-on k i sooner in
+        let m = int_min_is (latest_to line runs i) ((run_at runs (suc i)).hi -ℤ transits_to line (suc i)) in
+        omega (arith, ints, m, before))
     | inr same ↦ subst (λ j. (latest_to line runs (suc i) +ℤ transits_to line j) ≤ℤ (run_at runs j).hi) (sym same)
         (let m = int_min_is (latest_to line runs i) ((run_at runs (suc i)).hi -ℤ transits_to line (suc i)) in omega (arith, ints, m))
   ]
@@ -94,7 +106,8 @@ module _ (line : Line) (runs : List Run) (are : HasRuns line runs) where
   -- ---- a schedule of cumuls
 
   module _ (q : ℕ → ℤ) (low : (k : ℕ) → k ≤ length line.arcs → (run_at runs k).lo ≤ℤ q k) (high : (k : ℕ) → k ≤ length line.arcs → q k ≤ℤ (run_at runs k).hi)
-      (on : (k : ℕ) → k < length line.arcs → (q k +ℤ (arc_at line k).transit) ≤ℤ q (suc k)) (most : (k : ℕ) → k < length line.arcs → q (suc k) ≤ℤ ((q k +ℤ (arc_at line k).transit) +ℤ line.slack_max)) where
+      (on : (k : ℕ) → k < length line.arcs → (q k +ℤ (arc_at line k).transit) ≤ℤ q (suc k))
+      (most : (k : ℕ) → k < length line.arcs → q (suc k) ≤ℤ ((q k +ℤ (arc_at line k).transit) +ℤ line.slack_max)) where
     abbrev left : ℕ → ℤ
     left k = (q (suc k) -ℤ q k) -ℤ (arc_at line k).transit
 
@@ -123,9 +136,12 @@ module _ (line : Line) (runs : List Run) (are : HasRuns line runs) where
       cumul_of_each_stop = length-map (below (suc (length line.arcs))) q ∙ length-range_with_len 0 (suc (length line.arcs)) ∙ sym are.stops;
       slack_of_each_arc = length-map (below (length line.arcs)) left ∙ length-range_with_len 0 (length line.arcs);
       start_of_each_break = sym (ap length are.no_breaks);
-      cumuls_allowed = λ k less. (let le : k ≤ length line.arcs = omega (arith, are.stops, less) in subst (λ x. IsTrue (allows line k x)) (sym (made-is k le)) (there k le));
-      slacks_left = λ k less. (let a = slack-is k less in let b = made-is k (omega (arith, less)) in let c = made-is (suc k) (omega (arith, less)) in omega (arith, ints, a, b, c));
-      slacks_bounded = λ k less. (let a = slack-is k less in let b = on k less in let c = most k less in (omega (arith, ints, a, b), omega (arith, ints, a, c)));
+      cumuls_allowed =
+          λ k less. (let le : k ≤ length line.arcs = omega (arith, are.stops, less) in subst (λ x. IsTrue (allows line k x)) (sym (made-is k le)) (there k le));
+      slacks_left = λ k less.
+          (let a = slack-is k less in let b = made-is k (omega (arith, less)) in let c = made-is (suc k) (omega (arith, less)) in omega (arith, ints, a, b, c));
+      slacks_bounded =
+          λ k less. (let a = slack-is k less in let b = on k less in let c = most k less in (omega (arith, ints, a, b), omega (arith, ints, a, c)));
       breaks_in_range = λ i less. absurd (no-break i less);
       breaks_in_order = λ i less. absurd (no-break (suc i) less);
       breaks_placed = λ i less. absurd (no-break i less);
@@ -184,7 +200,8 @@ module _ (line : Line) (runs : List Run) (are : HasRuns line runs) where
         at : soon (length line.arcs) ≡ least_end_by line runs
         at =
             let b = time-least line runs are plan s (length line.arcs) (omega arith) in
-            let m = int_min_is (cumul plan (length line.arcs)) (least_end_by line runs +ℤ (transits_to line (length line.arcs) -ℤ transits_to line (length line.arcs))) in
+            let m = int_min_is (cumul plan (length line.arcs))
+            (least_end_by line runs +ℤ (transits_to line (length line.arcs) -ℤ transits_to line (length line.arcs))) in
             omega (arith, ints, b, m)
 
   -- ---- the latest start
@@ -202,7 +219,12 @@ module _ (line : Line) (runs : List Run) (are : HasRuns line runs) where
 
     starts-late : IsLatestStart line (least_end_by line runs) (last_start line runs)
     starts-late = record {
-      reached = (made late low high on most, made-schedule late low high on most, made-is late low high on most (length line.arcs) (omega arith) ∙ last, made-is late low high on most 0 (omega arith) ∙ first);
+      reached = (
+        made late low high on most,
+        made-schedule late low high on most,
+        made-is late low high on most (length line.arcs) (omega arith) ∙ last,
+        made-is late low high on most 0 (omega arith) ∙ first,
+      );
       greatest = λ other o e. start-most other o e;
     }
       where

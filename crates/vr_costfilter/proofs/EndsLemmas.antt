@@ -31,19 +31,24 @@ use Rattle.vr_costfilter.proofs.WayLemmas.{along-part, along-way, out-way}
 
 module _ (model : Model) (d v : ℕ) (a b : Runs) where
   -- visits that allow the same
-  same-way : (nodes : List ℕ) → All (λ node. slice_index_or a.visits node no_run ≡ slice_index_or b.visits node no_run) nodes → (way : Way) → tight_way_along model d v a way nodes ≡ tight_way_along model d v b way nodes
+  same-way : (nodes : List ℕ) → All (λ node. slice_index_or a.visits node no_run ≡ slice_index_or b.visits node no_run) nodes
+      → (way : Way) → tight_way_along model d v a way nodes ≡ tight_way_along model d v b way nodes
   same-way [] all way = refl
   same-way (x ∷ xs) all way =
       same-way xs (λ k other low. all (suc k) other (omega (arith, low))) (way_to_visit model d v a way x)
       ∙ ap (λ (r : Run). tight_way_along model d v b (way_on model d v way x r) xs) (all 0 0 (omega arith))
 
-  same-rest : a.finish ≡ b.finish → (nodes : List ℕ) → All (λ node. slice_index_or a.visits node no_run ≡ slice_index_or b.visits node no_run) nodes → tight_rest_of model d v a nodes ≡ tight_rest_of model d v b nodes
-  same-rest finish [] all = ap (λ (r : Run). (let w : Rest = record { at = (vehicle_at model v).end; transits = pos 0; least_end = r.lo; latest_cumul = r.hi } in w)) finish
+  same-rest : a.finish ≡ b.finish → (nodes : List ℕ) → All (λ node. slice_index_or a.visits node no_run ≡ slice_index_or b.visits node no_run) nodes
+      → tight_rest_of model d v a nodes ≡ tight_rest_of model d v b nodes
+  same-rest finish [] all =
+      ap (λ (r : Run). (let w : Rest = record { at = (vehicle_at model v).end; transits = pos 0; least_end = r.lo; latest_cumul = r.hi } in w)) finish
   same-rest finish (x ∷ xs) all =
-      ap₂ (λ (r : Run) (rest : Rest). rest_by (transit model d v x rest.at) x r rest) (all 0 0 (omega arith)) (same-rest finish xs (λ k other low. all (suc k) other (omega (arith, low))))
+      ap₂ (λ (r : Run) (rest : Rest). rest_by (transit model d v x rest.at) x r rest)
+      (all 0 0 (omega arith)) (same-rest finish xs (λ k other low. all (suc k) other (omega (arith, low))))
 
 -- two tables of runs agree on the stops of a list that is feasible
-module _ (model : Model) (d v : ℕ) (a b : Runs) (of_a : AreRuns model d v a) (of_b : AreRuns model d v b) (list : List ℕ) (tour : IsTour model list) (feasible : IsFeasible (line model d v list)) where
+module _ (model : Model) (d v : ℕ) (a b : Runs) (of_a : AreRuns model d v a) (of_b : AreRuns model d v b)
+    (list : List ℕ) (tour : IsTour model list) (feasible : IsFeasible (line model d v list)) where
   by : AllowsRuns model d v a list (line model d v list)
   by = line-allows model d v a of_a list tour
 
@@ -66,18 +71,22 @@ module _ (model : Model) (d v : ℕ) (a b : Runs) (of_a : AreRuns model d v a) (
       (subst (λ (r : Run). r.lo ≤ℤ r.hi) (stop-visit a list k low) (some (suc k) (omega (arith, low)))))
 
 -- the numbers of what is kept
-module _ (g : Guide) (list : List ℕ) (few : length list ≤ 1000) (visits : All (λ node. IsTrue (is_visit g.model.now node)) list) (kept : KeptTightWays) (has : HasWaysBy g.model.now g.d g.v (runs_of g) list kept) where
+module _ (g : Guide) (list : List ℕ) (few : length list ≤ 1000) (visits : All (λ node. IsTrue (is_visit g.model.now node)) list)
+    (kept : KeptTightWays) (has : HasWaysBy g.model.now g.d g.v (runs_of g) list kept) where
   pub kept-way : (k : ℕ) (other : Way) → k ≤ length list → IsTightWayOf g.model.now 1000 (slice_index_or kept.ways.items k other)
   kept-way k other low =
       subst (IsTightWayOf g.model.now 1000) (sym (has.keeps.ways.each k other low))
       (tight-more (0 + k) 1000 (omega (arith, few, low))
-      (along-part g.model.now g.sound.well_formed g.d g.v g.sound.dimension g.sound.vehicle (runs_of g) g.sound.visits list visits 0 (way_out g.model.now g.v (runs_of g)) (out-way g.model.now g.sound.well_formed g.d g.v g.sound.dimension g.sound.vehicle (runs_of g) g.sound.start) k low))
+      (along-part g.model.now g.sound.well_formed g.d g.v g.sound.dimension g.sound.vehicle
+      (runs_of g) g.sound.visits list visits 0 (way_out g.model.now g.v (runs_of g))
+      (out-way g.model.now g.sound.well_formed g.d g.v g.sound.dimension g.sound.vehicle (runs_of g) g.sound.start) k low))
 
   pub kept-rest : (k : ℕ) (other : Rest) → k ≤ length list → IsTightRestOf g.model.now 1000 (slice_index_or kept.rests.items k other)
   kept-rest k other low =
       subst (IsTightRestOf g.model.now 1000) (sym (has.keeps.rests.each k other low))
       (tight-more (length (drop (length list - k) list)) 1000 (let l = length-drop (length list - k) list in omega (arith, few, l))
-      (rest-range g.model.now g.sound.well_formed g.d g.v g.sound.dimension g.sound.vehicle (runs_of g) g.sound.visits g.sound.finish (drop (length list - k) list) (All-drop (λ node. IsTrue (is_visit g.model.now node)) (length list - k) list visits)))
+      (rest-range g.model.now g.sound.well_formed g.d g.v g.sound.dimension g.sound.vehicle (runs_of g) g.sound.visits g.sound.finish
+      (drop (length list - k) list) (All-drop (λ node. IsTrue (is_visit g.model.now node)) (length list - k) list visits)))
 
 -- ---- a list keeps the front and the end of an old one
 
@@ -124,8 +133,11 @@ module _ {g : Guide} {old list : List ℕ} {front behind : ℕ} {middle : List �
       → way ≡ tight_way_along g.model.now g.d g.v (runs_of g) (way_out g.model.now g.v (runs_of g)) (take front old)
   way-known way low read =
       read way ∙ it.is.has.keeps.ways.each front way low
-      ∙ same-way g.model.now g.d g.v it.is.runs (runs_of g) (take front old) (in-front (λ node. slice_index_or it.is.runs.visits node no_run ≡ slice_index_or g.visits.now node no_run) same-all) (way_out g.model.now g.v it.is.runs)
-      ∙ ap (λ (r : Run). (let out : Way = record { at = (vehicle_at g.model.now g.v).start; time = r.lo; transits = pos 0; latest = r.hi } in tight_way_along g.model.now g.d g.v (runs_of g) out (take front old)))
+      ∙ same-way g.model.now g.d g.v it.is.runs (runs_of g) (take front old)
+      (in-front (λ node. slice_index_or it.is.runs.visits node no_run ≡ slice_index_or g.visits.now node no_run) same-all)
+      (way_out g.model.now g.v it.is.runs)
+      ∙ ap (λ (r : Run). (let out : Way = record { at = (vehicle_at g.model.now g.v).start; time = r.lo; transits = pos 0; latest = r.hi } in
+      tight_way_along g.model.now g.d g.v (runs_of g) out (take front old)))
       (same-start g.model.now g.d g.v it.is.runs (runs_of g) it.is.has.runs_are it.are list it.tour it.feasible)
 
   pub way-small : (way : Way) → front ≤ length old → ((other : Way) → way ≡ slice_index_or kept.ways.items front other) → IsTightWayOf g.model.now 1000 way
@@ -133,7 +145,9 @@ module _ {g : Guide} {old list : List ℕ} {front behind : ℕ} {middle : List �
       let n = parts in
       subst (IsTightWayOf g.model.now 1000) (sym (way-known way low read))
       (tight-more (0 + length (take front old)) 1000 (omega (arith, n, it.few))
-      (along-way g.model.now g.sound.well_formed g.d g.v g.sound.dimension g.sound.vehicle (runs_of g) g.sound.visits (take front old) (in-front (λ node. IsTrue (is_visit g.model.now node)) visits) 0 (way_out g.model.now g.v (runs_of g)) (out-way g.model.now g.sound.well_formed g.d g.v g.sound.dimension g.sound.vehicle (runs_of g) g.sound.start)))
+      (along-way g.model.now g.sound.well_formed g.d g.v g.sound.dimension g.sound.vehicle (runs_of g) g.sound.visits
+      (take front old) (in-front (λ node. IsTrue (is_visit g.model.now node)) visits) 0 (way_out g.model.now g.v (runs_of g))
+      (out-way g.model.now g.sound.well_formed g.d g.v g.sound.dimension g.sound.vehicle (runs_of g) g.sound.start)))
 
   -- what is kept behind
   pub rest-known : (rest : Rest) → behind ≤ length old → ((other : Rest) → rest ≡ slice_index_or kept.rests.items (length kept.rests.items - 1 - behind) other)
@@ -141,27 +155,36 @@ module _ {g : Guide} {old list : List ℕ} {front behind : ℕ} {middle : List �
   rest-known rest low read =
       let here : length kept.rests.items - 1 - behind ≡ length old - behind = omega (arith, it.is.has.keeps.rests.many) in
       let back : length old - (length old - behind) ≡ behind = omega (arith, low) in
-      read rest ∙ ap (λ n. slice_index_or kept.rests.items n rest) here ∙ it.is.has.keeps.rests.each (length old - behind) rest (omega arith) ∙ ap (λ n. tight_rest_of g.model.now g.d g.v it.is.runs (drop n old)) back
-      ∙ same-rest g.model.now g.d g.v it.is.runs (runs_of g) (same-finish g.model.now g.d g.v it.is.runs (runs_of g) it.is.has.runs_are it.are list it.tour it.feasible)
+      read rest ∙ ap (λ n. slice_index_or kept.rests.items n rest) here ∙ it.is.has.keeps.rests.each (length old - behind) rest (omega arith)
+      ∙ ap (λ n. tight_rest_of g.model.now g.d g.v it.is.runs (drop n old)) back
+      ∙ same-rest g.model.now g.d g.v it.is.runs (runs_of g)
+      (same-finish g.model.now g.d g.v it.is.runs (runs_of g) it.is.has.runs_are it.are list it.tour it.feasible)
       (drop behind old) (in-back (λ node. slice_index_or it.is.runs.visits node no_run ≡ slice_index_or g.visits.now node no_run) same-all)
 
-  pub rest-small : (rest : Rest) → behind ≤ length old → ((other : Rest) → rest ≡ slice_index_or kept.rests.items (length kept.rests.items - 1 - behind) other) → IsTightRestOf g.model.now 1000 rest
+  pub rest-small : (rest : Rest) → behind ≤ length old
+      → ((other : Rest) → rest ≡ slice_index_or kept.rests.items (length kept.rests.items - 1 - behind) other) → IsTightRestOf g.model.now 1000 rest
   rest-small rest low read =
       let n = parts in
       subst (IsTightRestOf g.model.now 1000) (sym (rest-known rest low read))
       (tight-more (length (drop behind old)) 1000 (omega (arith, n, it.few))
-      (rest-range g.model.now g.sound.well_formed g.d g.v g.sound.dimension g.sound.vehicle (runs_of g) g.sound.visits g.sound.finish (drop behind old) (in-back (λ node. IsTrue (is_visit g.model.now node)) visits)))
+      (rest-range g.model.now g.sound.well_formed g.d g.v g.sound.dimension g.sound.vehicle (runs_of g)
+      g.sound.visits g.sound.finish (drop behind old) (in-back (λ node. IsTrue (is_visit g.model.now node)) visits)))
 
   -- the way along the front, on along the middle and through what is left is the whole one
-  pub whole-known : (first way whole : Way) (rest : Rest) → front ≤ length old → behind ≤ length old → ((other : Way) → first ≡ slice_index_or kept.ways.items front other)
+  pub whole-known : (first way whole : Way) (rest : Rest) → front ≤ length old
+      → behind ≤ length old → ((other : Way) → first ≡ slice_index_or kept.ways.items front other)
       → ((other : Rest) → rest ≡ slice_index_or kept.rests.items (length kept.rests.items - 1 - behind) other)
-      → way ≡ tight_way_along g.model.now g.d g.v (runs_of g) first middle → whole ≡ way_through g.model.now g.d g.v way rest → whole ≡ whole_tight_way g.model.now g.d g.v (runs_of g) list
+      → way ≡ tight_way_along g.model.now g.d g.v (runs_of g) first middle
+      → whole ≡ way_through g.model.now g.d g.v way rest → whole ≡ whole_tight_way g.model.now g.d g.v (runs_of g) list
   whole-known first way whole rest low high way_read rest_read way_is whole_is =
       whole_is
-      ∙ ap₂ (λ (w : Way) (r : Rest). way_through g.model.now g.d g.v w r) (way_is ∙ ap (λ (w : Way). tight_way_along g.model.now g.d g.v (runs_of g) w middle) (way-known first low way_read)) (rest-known rest high rest_read)
+      ∙ ap₂ (λ (w : Way) (r : Rest). way_through g.model.now g.d g.v w r)
+      (way_is ∙ ap (λ (w : Way). tight_way_along g.model.now g.d g.v (runs_of g) w middle) (way-known first low way_read)) (rest-known rest high rest_read)
       ∙ whole-parts g.model.now g.d g.v (runs_of g) (take front old) middle (drop behind old) list it.joins
 
-  pub whole-small : (way whole : Way) (rest : Rest) → behind ≤ length old → IsTightWayOf g.model.now 9000 way → ((other : Rest) → rest ≡ slice_index_or kept.rests.items (length kept.rests.items - 1 - behind) other)
+  pub whole-small : (way whole : Way) (rest : Rest) → behind ≤ length old → IsTightWayOf g.model.now 9000 way
+      → ((other : Rest) → rest ≡ slice_index_or kept.rests.items (length kept.rests.items - 1 - behind) other)
       → whole ≡ way_through g.model.now g.d g.v way rest → IsTightWayOf g.model.now 10001 whole
   whole-small way whole rest high range read whole_is =
-      subst (IsTightWayOf g.model.now 10001) (sym whole_is) (end-way g.model.now g.sound.well_formed g.d g.v g.sound.dimension g.sound.vehicle 9000 1000 way rest range (rest-small rest high read))
+      subst (IsTightWayOf g.model.now 10001) (sym whole_is)
+      (end-way g.model.now g.sound.well_formed g.d g.v g.sound.dimension g.sound.vehicle 9000 1000 way rest range (rest-small rest high read))

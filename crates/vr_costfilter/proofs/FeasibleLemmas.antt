@@ -30,7 +30,8 @@ use Rattle.vr_costfilter.specs.Steps.{AreSteps}
 use Rattle.vr_costfilter.specs.declared.guides.Stage.{Stage}
 use Rattle.vr_costfilter.specs.declared.trails.Step.{Step}
 use Rattle.vr_costfilter.proofs.FloorLemmas.{before-had, before-is, floor-had, floor-is, many-steps}
-use Rattle.vr_costfilter.proofs.LeastLemmas.{arc-transit, arcs-many, end-allows, floors-least, node-behind, not-below, run-of, start-allows, step-node, visit-allows}
+use Rattle.vr_costfilter.proofs.LeastLemmas.{arc-transit, arcs-many, end-allows, floors-least, node-behind, not-below, run-of, start-allows, step-node}
+use Rattle.vr_costfilter.proofs.LeastLemmas.{visit-allows}
 use Rattle.vr_costfilter.proofs.StageLemmas.{going}
 
 -- what a stop allows is not above its run
@@ -55,7 +56,8 @@ module _ (model : Model) (d v : ℕ) (runs : Runs) (list : List ℕ) (L : Line) 
     pub is : stop_floor model d v node allowed next ≡ Some floor
     pub least : floor ≤ℤ cumul plan k
 
-  floor-there : (k : ℕ) (allowed : Run) (node : ℕ) (next : Step) → k ≤ length list → IsAllowedRun L k allowed → node ≡ node_at_stop model v list k → next.node ≡ node_at_stop model v list (k + 1)
+  floor-there : (k : ℕ) (allowed : Run) (node : ℕ) (next : Step) → k ≤ length list → IsAllowedRun L k allowed
+      → node ≡ node_at_stop model v list k → next.node ≡ node_at_stop model v list (k + 1)
       → next.floor ≤ℤ cumul plan (suc k) → HasFloor node allowed next k
   floor-there k allowed node next le is from to there =
       let n = all-arcs in
@@ -68,7 +70,8 @@ module _ (model : Model) (d v : ℕ) (runs : Runs) (list : List ℕ) (L : Line) 
       let left = s.slacks_left k low in
       let bound = (s.slacks_bounded k low).1 in
       let m = int_max_is ((next.floor -ℤ t) -ℤ slack) allowed.lo in
-      let least : floor_before next.floor (transit model d v node next.node) slack allowed ≤ℤ cumul plan k = omega (arith, ints, m, way, here, left, bound, by.slack_max, there) in
+      let least : floor_before next.floor (transit model d v node next.node) slack allowed ≤ℤ cumul plan k =
+      omega (arith, ints, m, way, here, left, bound, by.slack_max, there) in
       record { floor = it; is = floor-is next.floor t slack allowed it (record { is = refl; most = omega (arith, ints, least, most) }); least = least }
 
   -- the first of the steps to the visits from a place on, to which the schedule comes no earlier
@@ -93,11 +96,13 @@ module _ (model : Model) (d v : ℕ) (runs : Runs) (list : List ℕ) (L : Line) 
       let node : ℕ = slice_index_or list k 0 in
       let f : suc k ≡ k + 1 = omega arith in
       let e : suc k + 1 ≡ suc (k + 1) = omega arith in
-      let had = floor-there (k + 1) (slice_index_or runs.visits node no_run) node next.step (omega (arith, low)) (visit-allows model d v runs list L by k low) (node-behind model d v runs list L by k low)
+      let had = floor-there (k + 1) (slice_index_or runs.visits node no_run) node next.step (omega (arith, low))
+      (visit-allows model d v runs list L by k low) (node-behind model d v runs list L by k low)
       (next.node ∙ ap (λ i. node_at_stop model v list (i + 1)) f) (subst (λ i. next.step.floor ≤ℤ cumul plan i) e next.least) in
       record {
         step = record { node = node; floor = had.floor };
-        is = ap (λ l. first_step model d v runs l (end_step model v runs)) (drop-cons list k 0 low) ∙ ap (option_and_then (λ (n : Step). Rattle.vr_costfilter.specs.Floors.before model d v runs node n)) next.is
+        is = ap (λ l. first_step model d v runs l (end_step model v runs)) (drop-cons list k 0 low)
+            ∙ ap (option_and_then (λ (n : Step). Rattle.vr_costfilter.specs.Floors.before model d v runs node n)) next.is
             ∙ before-is model d v runs node next.step had.floor had.is had.floor refl;
         node = node-behind model d v runs list L by k low;
         least = had.least;
@@ -122,7 +127,9 @@ module _ (model : Model) (d v : ℕ) (runs : Runs) (list : List ℕ) (L : Line) 
     record Keeps (k : ℕ) (stage : Stage) : Type 0 where
       pub at : stage.at ≡ node_at_stop model v list k
       pub most : stage.cumul ≤ℤ cumul plan k
-      pub meets : (((slice_index_or steps k (end_step model v runs)).floor -ℤ transit model d v stage.at (slice_index_or steps k (end_step model v runs)).node) -ℤ slack) ≤ℤ stage.cumul
+      pub meets :
+          (((slice_index_or steps k (end_step model v runs)).floor -ℤ transit model d v stage.at (slice_index_or steps k (end_step model v runs)).node)
+          -ℤ slack) ≤ℤ stage.cumul
 
     -- a stop behind it
     record GoesOn (k : ℕ) (node : ℕ) (floor : ℤ) (allowed : Run) (row : Option StopRow) (stage : Stage) : Type 0 where
@@ -132,8 +139,10 @@ module _ (model : Model) (d v : ℕ) (runs : Runs) (list : List ℕ) (L : Line) 
       pub most : next.cumul ≤ℤ cumul plan (k + 1)
       pub least : floor ≤ℤ next.cumul
 
-    goes-on : (k : ℕ) (stage : Stage) → k ≤ length list → stage.at ≡ node_at_stop model v list k → stage.cumul ≤ℤ cumul plan k → (node : ℕ) → node ≡ node_at_stop model v list (k + 1)
-        → (allowed : Run) → IsAllowedRun L (k + 1) allowed → (floor : ℤ) → floor ≤ℤ cumul plan (k + 1) → ((floor -ℤ transit model d v stage.at node) -ℤ slack) ≤ℤ stage.cumul → (row : Option StopRow) → pos 0 ≤ℤ slack
+    goes-on : (k : ℕ) (stage : Stage) → k ≤ length list → stage.at ≡ node_at_stop model v list k
+        → stage.cumul ≤ℤ cumul plan k → (node : ℕ) → node ≡ node_at_stop model v list (k + 1)
+        → (allowed : Run) → IsAllowedRun L (k + 1) allowed → (floor : ℤ) → floor ≤ℤ cumul plan (k + 1)
+        → ((floor -ℤ transit model d v stage.at node) -ℤ slack) ≤ℤ stage.cumul → (row : Option StopRow) → pos 0 ≤ℤ slack
         → GoesOn k node floor allowed row stage
     goes-on k stage le at most node to allowed is floor above meets row positive =
         let n = all-arcs in
@@ -142,9 +151,11 @@ module _ (model : Model) (d v : ℕ) (runs : Runs) (list : List ℕ) (L : Line) 
         let x : ℤ = next_cumul stage.cumul t (from_floor floor allowed) in
         let way = arc-transit model d v runs list L by k stage.at node le at to in
         let hi = not-above L (k + 1) allowed (cumul plan (k + 1)) is (allowed-at (k + 1) (omega (arith, le))) in
-        let left = subst (λ i. (cumul plan k +ℤ transit model d v stage.at node) ≤ℤ cumul plan i) (sym (add-one k)) (onward k low (transit model d v stage.at node) way) in
+        let left = subst (λ i. (cumul plan k +ℤ transit model d v stage.at node) ≤ℤ cumul plan i)
+        (sym (add-one k)) (onward k low (transit model d v stage.at node) way) in
         let m = int_max_is (stage.cumul +ℤ t) floor in
-        let no_later : next_cumul stage.cumul (transit model d v stage.at node) (from_floor floor allowed) ≤ℤ cumul plan (k + 1) = omega (arith, ints, m, left, most, above) in
+        let no_later : next_cumul stage.cumul (transit model d v stage.at node) (from_floor floor allowed) ≤ℤ cumul plan (k + 1) =
+        omega (arith, ints, m, left, most, above) in
         record {
           next = record { at = node; cumul = x; soft = stage.soft +ℤ row_cost row x };
           is = going t slack node (from_floor floor allowed) row stage x (stage.soft +ℤ row_cost row x)
@@ -179,7 +190,8 @@ module _ (model : Model) (d v : ℕ) (runs : Runs) (list : List ℕ) (L : Line) 
         let node : ℕ = (vehicle_at model v).start in
         let next : Step = step-at 0 in
         let f : 0 + 1 ≡ suc 0 = omega arith in
-        let had = floor-there 0 runs.start node next (omega arith) (start-allows model d v runs list L by) refl (step-node model d v runs list L by steps steps_are 0 (omega arith))
+        let had = floor-there 0 runs.start node next (omega arith) (start-allows model d v runs list L by)
+        refl (step-node model d v runs list L by steps steps_are 0 (omega arith))
         (subst (λ i. next.floor ≤ℤ cumul plan i) f first) in
         let floor = floor-had next.floor (transit model d v node next.node) slack runs.start had.floor had.is in
         let m = int_max_is ((next.floor -ℤ transit model d v node next.node) -ℤ slack) runs.start.lo in
@@ -211,17 +223,20 @@ module _ (model : Model) (d v : ℕ) (runs : Runs) (list : List ℕ) (L : Line) 
         let floor = floor-had behind.floor (transit model d v step.node behind.node) slack allowed step.floor is.floor in
         let it = floor.is in
         let m = int_max_is ((behind.floor -ℤ transit model d v step.node behind.node) -ℤ slack) allowed.lo in
-        let on = goes-on k there.stage (omega (arith, low)) there.keeps.at there.keeps.most step.node node allowed (run-of model d v runs list L by steps steps_are k end low) step.floor
+        let on = goes-on k there.stage (omega (arith, low)) there.keeps.at there.keeps.most step.node
+        node allowed (run-of model d v runs list L by steps steps_are k end low) step.floor
         (floors-least model d v runs list L by steps steps_are plan s (length list - k) k (omega (arith, low))) there.keeps.meets row slack-positive in
         let least = on.least in
         record {
           stage = on.next;
-          is = ap (λ i. along model d v runs out (take i steps)) (sym (add-one k)) ∙ fold_more (visit_more model d v runs) out steps k end (omega (arith, low, n))
+          is = ap (λ i. along model d v runs out (take i steps)) (sym (add-one k))
+              ∙ fold_more (visit_more model d v runs) out steps k end (omega (arith, low, n))
               ∙ ap (option_and_then (to_visit model d v runs step)) there.is ∙ on.is;
           keeps = record {
             at = on.at ∙ node ∙ ap (node_at_stop model v list) (add-one k);
             most = subst (λ i. on.next.cumul ≤ℤ cumul plan i) (add-one k) on.most;
-            meets = subst (λ (i : ℕ). ((behind.floor -ℤ transit model d v i behind.node) -ℤ slack) ≤ℤ on.next.cumul) (sym on.at) (met behind.floor (transit model d v step.node behind.node) slack allowed.lo step.floor on.next.cumul it least);
+            meets = subst (λ (i : ℕ). ((behind.floor -ℤ transit model d v i behind.node) -ℤ slack) ≤ℤ on.next.cumul) (sym on.at)
+                (met behind.floor (transit model d v step.node behind.node) slack allowed.lo step.floor on.next.cumul it least);
           };
         }
       where
@@ -236,10 +251,15 @@ module _ (model : Model) (d v : ℕ) (runs : Runs) (list : List ℕ) (L : Line) 
         let last : step-at (length list) ≡ end = get_or_past steps (length list) end (omega (arith, n)) in
         let node : ℕ = (vehicle_at model v).end in
         let f : length list + 1 ≡ suc (length list) = omega arith in
-        let on = goes-on (length list) there.stage (omega arith) there.keeps.at there.keeps.most node (sym (end_node model v list (length list) refl)) runs.finish (end-allows model d v runs list L by (length list) refl) runs.finish.lo
-        (not-below L (length list + 1) runs.finish (cumul plan (length list + 1)) (end-allows model d v runs list L by (length list) refl) (allowed-at (length list + 1) (omega arith)))
-        (subst (λ (x : Step). ((x.floor -ℤ transit model d v there.stage.at x.node) -ℤ slack) ≤ℤ there.stage.cumul) last there.keeps.meets) (row_of (dimension_at model d).ends v) slack-positive in
-        other (sym (ap (option_and_then (to_end model d v runs)) (ap (along model d v runs out) (sym (take_all (length list) steps (omega (arith, n)))) ∙ there.is) ∙ on.is) ∙ none)
+        let on = goes-on (length list) there.stage (omega arith) there.keeps.at there.keeps.most node
+        (sym (end_node model v list (length list) refl)) runs.finish (end-allows model d v runs list L by (length list) refl) runs.finish.lo
+        (not-below L (length list + 1) runs.finish (cumul plan (length list + 1))
+        (end-allows model d v runs list L by (length list) refl) (allowed-at (length list + 1) (omega arith)))
+        (subst (λ (x : Step). ((x.floor -ℤ transit model d v there.stage.at x.node) -ℤ slack) ≤ℤ there.stage.cumul) last there.keeps.meets)
+        (row_of (dimension_at model d).ends v) slack-positive in
+        other (sym
+        (ap (option_and_then (to_end model d v runs)) (ap (along model d v runs out) (sym (take_all (length list) steps (omega (arith, n)))) ∙ there.is)
+        ∙ on.is) ∙ none)
       where
         other : {stage : Stage} → Some stage ≡ None → ⊥
         other e = Prim.cc
@@ -253,9 +273,11 @@ unfeasible L refuted = by (is_feasible L) refl
     by true e = absurd (refuted (feasible_is L e))
 
 -- where there is no way to the end, the line has none
-pub begin-unfeasible : (model : Model) (d v : ℕ) (runs : Runs) (list : List ℕ) (L : Line) → AllowsRuns model d v runs list L → first_step model d v runs list (end_step model v runs) ≡ None → is_feasible L ≡ false
+pub begin-unfeasible : (model : Model) (d v : ℕ) (runs : Runs) (list : List ℕ) (L : Line)
+    → AllowsRuns model d v runs list L → first_step model d v runs list (end_step model v runs) ≡ None → is_feasible L ≡ false
 begin-unfeasible model d v runs list L by none = unfeasible L (λ f. begin-had model d v runs list L by f.0 f.1 none)
 
-pub whole-unfeasible : (model : Model) (d v : ℕ) (runs : Runs) (list : List ℕ) (L : Line) → AllowsRuns model d v runs list L → (steps : List Step) → AreSteps model d v runs list steps
+pub whole-unfeasible : (model : Model) (d v : ℕ) (runs : Runs) (list : List ℕ) (L : Line)
+    → AllowsRuns model d v runs list L → (steps : List Step) → AreSteps model d v runs list steps
     → along_to_end model d v runs (setting_out model d v runs (first_step_or steps (end_step model v runs))) steps ≡ None → is_feasible L ≡ false
 whole-unfeasible model d v runs list L by steps are none = unfeasible L (λ f. whole-had model d v runs list L by f.0 f.1 steps are none)

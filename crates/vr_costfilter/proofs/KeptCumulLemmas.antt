@@ -1,5 +1,6 @@
 -- What is kept of lists, written stage by stage, and after a list is replaced.
-use Rattle.std.proofs.Common.{◌≡◌, ◌∙◌, inl, inr, ℕ, zero, suc, ◌+◌, ◌-◌, ◌<◌, ◌≤◌, List, [], ◌∷◌, ◌++◌, length, length-set, reverse, take, drop, refl, sym, ap, subst, add-one, arith, Option, Some, None}
+use Rattle.std.proofs.Common.{◌≡◌, ◌∙◌, inl, inr, ℕ, zero, suc, ◌+◌, ◌-◌, ◌<◌, ◌≤◌, List, [], ◌∷◌, ◌++◌, length, length-set, reverse, take, drop, refl, sym, ap}
+use Rattle.std.proofs.Common.{subst, add-one, arith, Option, Some, None}
 use Rattle.std.specs.Prelude.{All, IsTrue, ℤ, pos, option_map, slice_index_or, slice_set}
 use Rattle.std.specs.List.{list_all}
 use Rattle.std.proofs.lemmas.Bool.{and_parts, cases_lt}
@@ -34,23 +35,29 @@ module _ (model : Model) (d v : ℕ) (runs : Runs) (list : List ℕ) (steps : Li
   out = setting_out model d v runs (first_step_or steps (end_step model v runs))
 
   -- the stage at the start
-  pub first-stage : (stages : List Stage) (stage : Stage) → stages ≡ stage ∷ [] → setting_out model d v runs (first_step_or steps (end_step model v runs)) ≡ Some stage → IsStageOf model 1 stage → AreStages model d v runs steps 0 stages
+  pub first-stage : (stages : List Stage) (stage : Stage) → stages ≡ stage ∷ []
+      → setting_out model d v runs (first_step_or steps (end_step model v runs)) ≡ Some stage
+      → IsStageOf model 1 stage → AreStages model d v runs steps 0 stages
   first-stage stages stage is e range = subst (AreStages model d v runs steps 0) (sym is) (record {
-    each = λ k other le. let none : 0 ≡ k = omega (arith, le) in subst (λ n. along model d v runs out (take n steps) ≡ Some (slice_index_or (stage ∷ []) n other)) none e;
+    each = λ k other le. let none : 0 ≡ k = omega (arith, le) in
+        subst (λ n. along model d v runs out (take n steps) ≡ Some (slice_index_or (stage ∷ []) n other)) none e;
     at = λ k other less. absurd (omega (arith, less));
     range = λ k other le. let none : 0 ≡ k = omega (arith, le) in subst (λ n. IsStageOf model 1 (slice_index_or (stage ∷ []) n other)) none range;
   })
 
   -- the stage at one visit more
-  pub stages-more : (n : ℕ) (stages more : List Stage) (next : Stage) → n < length steps → length stages ≡ suc n → AreStages model d v runs steps n stages → more ≡ stages ++ next ∷ []
-      → ((other : Stage) → to_visit model d v runs (slice_index_or steps n (end_step model v runs)) (slice_index_or stages n other) ≡ Some next) → next.at ≡ (slice_index_or steps n (end_step model v runs)).node → IsStageOf model (suc (n + 1)) next
+  pub stages-more : (n : ℕ) (stages more : List Stage) (next : Stage) → n < length steps
+      → length stages ≡ suc n → AreStages model d v runs steps n stages → more ≡ stages ++ next ∷ []
+      → ((other : Stage) → to_visit model d v runs (slice_index_or steps n (end_step model v runs)) (slice_index_or stages n other) ≡ Some next)
+      → next.at ≡ (slice_index_or steps n (end_step model v runs)).node → IsStageOf model (suc (n + 1)) next
       → AreStages model d v runs steps (n + 1) more
   stages-more n stages more next low many are is told at range = subst (AreStages model d v runs steps (n + 1)) (sym is) (record {
     each = λ k other le. elim (cases_lt k (suc n)) [
       | inl less ↦ are.each k other (omega (arith, less)) ∙ ap (λ s. Some s) (sym (get_or_append_left stages (next ∷ []) other k (omega (arith, less, many))))
       | inr high ↦ (let here : n + 1 ≡ k = omega (arith, le, high) in
           subst (λ i. along model d v runs out (take i steps) ≡ Some (slice_index_or (stages ++ next ∷ []) i other)) here
-          (fold_more (visit_more model d v runs) out steps n (end_step model v runs) low ∙ ap (option_and_then (to_visit model d v runs (slice_index_or steps n (end_step model v runs)))) (are.each n other (omega arith)) ∙ told other
+          (fold_more (visit_more model d v runs) out steps n (end_step model v runs) low
+          ∙ ap (option_and_then (to_visit model d v runs (slice_index_or steps n (end_step model v runs)))) (are.each n other (omega arith)) ∙ told other
           ∙ ap (λ s. Some s) (sym (get_or_push stages next other (n + 1) (omega (arith, many))))))
     ];
     at = λ k other less. elim (cases_lt k n) [
@@ -60,7 +67,8 @@ module _ (model : Model) (d v : ℕ) (runs : Runs) (list : List ℕ) (steps : Li
           (ap (λ (s : Stage). s.at) (get_or_push stages next other (suc n) (omega (arith, many))) ∙ at))
     ];
     range = λ k other le. elim (cases_lt k (suc n)) [
-      | inl less ↦ subst (IsStageOf model (suc (n + 1))) (sym (get_or_append_left stages (next ∷ []) other k (omega (arith, less, many)))) (stage-more model (suc n) (suc (n + 1)) _ (omega arith) (are.range k other (omega (arith, less))))
+      | inl less ↦ subst (IsStageOf model (suc (n + 1))) (sym (get_or_append_left stages (next ∷ []) other k (omega (arith, less, many))))
+          (stage-more model (suc n) (suc (n + 1)) _ (omega arith) (are.range k other (omega (arith, less))))
       | inr high ↦ (let here : n + 1 ≡ k = omega (arith, le, high) in
           subst (λ i. IsStageOf model (suc (n + 1)) (slice_index_or (stages ++ next ∷ []) i other)) here
           (subst (IsStageOf model (suc (n + 1))) (sym (get_or_push stages next other (n + 1) (omega (arith, many)))) range))
@@ -68,11 +76,15 @@ module _ (model : Model) (d v : ℕ) (runs : Runs) (list : List ℕ) (steps : Li
   })
 
   -- the stage at the end
-  pub stages-whole : AreSteps model d v runs list steps → All (IsVisitStep model) steps → (stages more : List Stage) (end : Stage) → length steps ≡ length list → length stages ≡ suc (length list) → AreStages model d v runs steps (length list) stages → more ≡ stages ++ end ∷ []
-      → ((other : Stage) → to_end model d v runs (slice_index_or stages (length list) other) ≡ Some end) → IsStageOf model (suc (suc (length list))) end → AreAllStages model d v runs list steps more
+  pub stages-whole : AreSteps model d v runs list steps → All (IsVisitStep model) steps → (stages more : List Stage) (end : Stage)
+      → length steps ≡ length list → length stages ≡ suc (length list) → AreStages model d v runs steps (length list) stages → more ≡ stages ++ end ∷ []
+      → ((other : Stage) → to_end model d v runs (slice_index_or stages (length list) other) ≡ Some end)
+      → IsStageOf model (suc (suc (length list))) end → AreAllStages model d v runs list steps more
   stages-whole steps_are known stages more end long many are is told range =
-      let at_end : (other : Stage) → slice_index_or (stages ++ end ∷ []) (suc (length list)) other ≡ end = λ other. get_or_push stages end other (suc (length list)) (omega (arith, many)) in
-      let left : (k : ℕ) (other : Stage) → k ≤ length list → slice_index_or (stages ++ end ∷ []) k other ≡ slice_index_or stages k other = λ k other le. get_or_append_left stages (end ∷ []) other k (omega (arith, many, le)) in
+      let at_end : (other : Stage) → slice_index_or (stages ++ end ∷ []) (suc (length list)) other ≡ end = λ other. get_or_push stages
+      end other (suc (length list)) (omega (arith, many)) in
+      let left : (k : ℕ) (other : Stage) → k ≤ length list → slice_index_or (stages ++ end ∷ []) k other ≡ slice_index_or stages k other =
+      λ k other le. get_or_append_left stages (end ∷ []) other k (omega (arith, many, le)) in
       subst (AreAllStages model d v runs list steps) (sym is) (record {
         steps_are = steps_are;
         known = known;
@@ -90,25 +102,32 @@ module _ (model : Model) (d v : ℕ) (runs : Runs) (list : List ℕ) (steps : Li
   pub kept-rest : (stages : List Stage) → AreAllStages model d v runs list steps stages → (k : ℕ) (other : Stage) → k ≤ length list
       → along_to_end model d v runs (Some (slice_index_or stages k other)) (drop k steps) ≡ Some (slice_index_or stages (suc (length list)) other)
   kept-rest stages are k other le =
-      ap (λ o. along_to_end model d v runs o (drop k steps)) (sym (are.stages_are.each k other le)) ∙ sym (whole-append model d v runs out (take k steps) (drop k steps))
+      ap (λ o. along_to_end model d v runs o (drop k steps)) (sym (are.stages_are.each k other le))
+      ∙ sym (whole-append model d v runs out (take k steps) (drop k steps))
       ∙ ap (along_to_end model d v runs out) (take-append-drop k steps) ∙ are.end other
 
   -- the numbers of stages that are kept
-  pub kept-small : (stages read : List Stage) → AreAllStages model d v runs list steps stages → read ≡ stages → length list ≤ 1000 → (k : ℕ) (other : Stage) → k ≤ length list → IsStageOf model 1002 (slice_index_or read k other)
+  pub kept-small : (stages read : List Stage) → AreAllStages model d v runs list steps stages → read ≡ stages
+      → length list ≤ 1000 → (k : ℕ) (other : Stage) → k ≤ length list → IsStageOf model 1002 (slice_index_or read k other)
   kept-small stages read are is few k other le =
-      subst (λ (l : List Stage). IsStageOf model 1002 (slice_index_or l k other)) (sym is) (stage-more model (suc (length list)) 1002 _ (omega (arith, few)) (are.stages_are.range k other le))
+      subst (λ (l : List Stage). IsStageOf model 1002 (slice_index_or l k other)) (sym is)
+      (stage-more model (suc (length list)) 1002 _ (omega (arith, few)) (are.stages_are.range k other le))
 
-  pub end-small : (stages read : List Stage) → AreAllStages model d v runs list steps stages → read ≡ stages → length list ≤ 1000 → (other : Stage) → IsStageOf model 1002 (slice_index_or read (length list + 1) other)
+  pub end-small : (stages read : List Stage) → AreAllStages model d v runs list steps stages → read ≡ stages
+      → length list ≤ 1000 → (other : Stage) → IsStageOf model 1002 (slice_index_or read (length list + 1) other)
   end-small stages read are is few other =
       subst (λ (l : List Stage). IsStageOf model 1002 (slice_index_or l (length list + 1) other)) (sym is)
-      (subst (λ n. IsStageOf model 1002 (slice_index_or stages n other)) (sym (add-one (length list))) (stage-more model (suc (suc (length list))) 1002 _ (omega (arith, few)) (are.end_range other)))
+      (subst (λ n. IsStageOf model 1002 (slice_index_or stages n other)) (sym (add-one (length list)))
+      (stage-more model (suc (suc (length list))) 1002 _ (omega (arith, few)) (are.end_range other)))
 
   -- the stage at the start that is kept
-  pub kept-out : (stages : List Stage) → AreAllStages model d v runs list steps stages → (other : Stage) → setting_out model d v runs (first_step_or steps (end_step model v runs)) ≡ Some (slice_index_or stages 0 other)
+  pub kept-out : (stages : List Stage) → AreAllStages model d v runs list steps stages → (other : Stage)
+      → setting_out model d v runs (first_step_or steps (end_step model v runs)) ≡ Some (slice_index_or stages 0 other)
   kept-out stages are other = are.stages_are.each 0 other (omega arith)
 
 -- as many steps are kept as there are visits
-pub items-many : (model : Model) (d v : ℕ) (runs : Runs) (list : List ℕ) (items : List Step) → AreSteps model d v runs list (reverse items) → length items ≡ length list
+pub items-many : (model : Model) (d v : ℕ) (runs : Runs) (list : List ℕ) (items : List Step)
+    → AreSteps model d v runs list (reverse items) → length items ≡ length list
 items-many model d v runs list items are = sym (length-reverse items) ∙ many-steps model d v runs list (reverse items) are
 
 -- what is read of the steps and the stages that are kept of a list
@@ -132,11 +151,13 @@ module _ {model : Model} {d v : ℕ} {runs : Runs} {list : List ℕ} {kept : Kep
     step-known one = subst (IsVisitStep model) (sym (step-there one one)) (sound.stages.known k one (omega (arith, low, steps-long)))
 
   -- the stage at a stop
-  pub stage-known : {read : List Stage} → read ≡ kept.stages.items → (k : ℕ) (other : Stage) → k ≤ length list → IsStageOf model 1002 (slice_index_or read k other)
+  pub stage-known : {read : List Stage} → read ≡ kept.stages.items → (k : ℕ) (other : Stage)
+      → k ≤ length list → IsStageOf model 1002 (slice_index_or read k other)
   stage-known {read} is k other le = kept-small model d v runs list (steps_of kept) kept.stages.items read sound.stages is sound.few k other le
 
 -- what is kept at the start is a stage at a cumul
-pub out-standing : (model : Model) (d v : ℕ) (runs : Runs) (next : Step) (stage : Stage) → setting_out model d v runs next ≡ Some stage → stage ≡ stage_at_start model d v stage.cumul
+pub out-standing : (model : Model) (d v : ℕ) (runs : Runs) (next : Step) (stage : Stage)
+    → setting_out model d v runs next ≡ Some stage → stage ≡ stage_at_start model d v stage.cumul
 out-standing model d v runs next stage e = by (stop_floor model d v (vehicle_at model v).start runs.start next) e
   where
     by : (o : Option ℤ) → option_map (stage_at_start model d v) o ≡ Some stage → stage ≡ stage_at_start model d v stage.cumul
@@ -146,11 +167,13 @@ out-standing model d v runs next stage e = by (stop_floor model d v (vehicle_at 
 -- the nodes of a list are visits
 pub all-visits : (model : Model) (list : List ℕ) → IsTrue (list_all (is_visit model) list) → All (λ node. IsTrue (is_visit model node)) list
 all-visits model (x ∷ xs) all zero other low = (and_parts (is_visit model x) (list_all (is_visit model) xs) all).0
-all-visits model (x ∷ xs) all (suc k) other low = all-visits model xs (and_parts (is_visit model x) (list_all (is_visit model) xs) all).1 k other (omega (arith, low))
+all-visits model (x ∷ xs) all (suc k) other low =
+    all-visits model xs (and_parts (is_visit model x) (list_all (is_visit model) xs) all).1 k other (omega (arith, low))
 all-visits model [] all k other low = absurd (omega (arith, low))
 
 -- what is kept by one table is kept by each
-pub stages-so : (model : Model) (d v : ℕ) (runs others : Runs) → AreRuns model d v runs → AreRuns model d v others → (list : List ℕ) (kept : KeptSteps) → HasStages model d v runs list kept → HasStages model d v others list kept
+pub stages-so : (model : Model) (d v : ℕ) (runs others : Runs) → AreRuns model d v runs → AreRuns model d v others
+    → (list : List ℕ) (kept : KeptSteps) → HasStages model d v runs list kept → HasStages model d v others list kept
 stages-so model d v runs others of_these of_others list kept is = record { told = λ many. by_others (is.told many) }
   where
     none : Stage
@@ -161,35 +184,44 @@ stages-so model d v runs others of_these of_others list kept is = record { told 
         let steps : List Step = steps_of kept in
         let end : Step = end_step model v runs in
         let first : Step = first_step_or steps end in
-        let start = start-run model d v runs others of_these of_others (start-some model d v runs first (slice_index_or kept.stages.items 0 none) (are.stages_are.each 0 none (omega arith))) in
-        let finish = finish-run model d v runs others of_these of_others (end-some model d v runs (along model d v runs (setting_out model d v runs first) steps) (slice_index_or kept.stages.items (suc (length list)) none) (are.end none)) in
+        let start = start-run model d v runs others of_these of_others
+        (start-some model d v runs first (slice_index_or kept.stages.items 0 none) (are.stages_are.each 0 none (omega arith))) in
+        let finish = finish-run model d v runs others of_these of_others
+        (end-some model d v runs (along model d v runs (setting_out model d v runs first) steps)
+        (slice_index_or kept.stages.items (suc (length list)) none) (are.end none)) in
         let last = same-end-step model d v runs others of_these of_others finish in
         let aimed = same-aimed model d v runs others of_these of_others steps end are.steps_are.aimed are.known in
         let out = same-out model d v runs others of_these of_others start first ∙ ap (λ e. setting_out model d v others (first_step_or steps e)) last in
         let gone : (o : Option Stage) (k : ℕ) → along model d v runs o (take k steps) ≡ along model d v others o (take k steps) =
         λ o k. same-along model d v runs others of_these of_others o (take k steps) (first_step_or (drop k steps) end)
-        (aimed-left model d v runs (take k steps) (drop k steps) end (subst (λ l. AreAimed model d v runs l end) (sym (take-append-drop k steps)) are.steps_are.aimed)) (All-take (IsVisitStep model) k steps are.known) in
+        (aimed-left model d v runs (take k steps) (drop k steps) end
+        (subst (λ l. AreAimed model d v runs l end) (sym (take-append-drop k steps)) are.steps_are.aimed))
+        (All-take (IsVisitStep model) k steps are.known) in
         let all = same-along model d v runs others of_these of_others (setting_out model d v runs first) steps end are.steps_are.aimed are.known in
         record {
           steps_are = record { nodes_are = are.steps_are.nodes_are; aimed = subst (AreAimed model d v others steps) last aimed };
           known = are.known;
           stages_are = record {
-            each = λ k other le. sym (gone (setting_out model d v runs first) k ∙ ap (λ o. along model d v others o (take k steps)) out) ∙ are.stages_are.each k other le;
+            each = λ k other le. sym (gone (setting_out model d v runs first) k ∙ ap (λ o. along model d v others o (take k steps)) out)
+                ∙ are.stages_are.each k other le;
             at = λ k other less. are.stages_are.at k other less ∙ ap (λ e. (slice_index_or steps k e).node) last;
             range = are.stages_are.range;
           };
           end = λ other.
               sym (ap (option_and_then (to_end model d v runs)) (all ∙ ap (λ o. along model d v others o steps) out)
-              ∙ same-end model d v runs others of_these of_others finish (along model d v others (setting_out model d v others (first_step_or steps (end_step model v others))) steps)) ∙ are.end other;
+              ∙ same-end model d v runs others of_these of_others finish
+              (along model d v others (setting_out model d v others (first_step_or steps (end_step model v others))) steps)) ∙ are.end other;
           end_range = are.end_range;
         }
 
 -- so is what is kept between two cumuls of the ends
-pub stages-between : (model : Model) (d v : ℕ) (runs others : Runs) → AreRuns model d v runs → AreRuns model d v others → (s e : ℤ) (list : List ℕ) (kept : KeptSteps)
+pub stages-between : (model : Model) (d v : ℕ) (runs others : Runs) → AreRuns model d v runs
+    → AreRuns model d v others → (s e : ℤ) (list : List ℕ) (kept : KeptSteps)
     → HasStages model d v (between_runs runs s e) list kept → HasStages model d v (between_runs others s e) list kept
 stages-between model d v runs others of_these of_others s e list kept is = record { told = λ many. by_others (is.told many) }
   where
-    by_others : AreAllStages model d v (between_runs runs s e) list (steps_of kept) kept.stages.items → AreAllStages model d v (between_runs others s e) list (steps_of kept) kept.stages.items
+    by_others : AreAllStages model d v (between_runs runs s e) list (steps_of kept) kept.stages.items
+        → AreAllStages model d v (between_runs others s e) list (steps_of kept) kept.stages.items
     by_others are =
         let steps : List Step = steps_of kept in
         let end : Step = end_step model v (between_runs runs s e) in
@@ -198,7 +230,8 @@ stages-between model d v runs others of_these of_others s e list kept is = recor
         let aimed_too = same-aimed model d v runs others of_these of_others steps end aimed are.known in
         let gone : (k : ℕ) → along model d v runs out (take k steps) ≡ along model d v others out (take k steps) =
         λ k. same-along model d v runs others of_these of_others out (take k steps) (first_step_or (drop k steps) end)
-        (aimed-left model d v runs (take k steps) (drop k steps) end (subst (λ l. AreAimed model d v runs l end) (sym (take-append-drop k steps)) aimed)) (All-take (IsVisitStep model) k steps are.known) in
+        (aimed-left model d v runs (take k steps) (drop k steps) end (subst (λ l. AreAimed model d v runs l end) (sym (take-append-drop k steps)) aimed))
+        (All-take (IsVisitStep model) k steps are.known) in
         let all = same-along model d v runs others of_these of_others out steps end aimed are.known in
         record {
           steps_are = record { nodes_are = are.steps_are.nodes_are; aimed = record { each = aimed_too.each } };
@@ -217,11 +250,13 @@ pub other-rule : Earliest ≡ Tight → ⊥
 other-rule e = Prim.cc
 
 -- nothing is told where there are too few stages
-pub stages-none : (model : Model) (d v : ℕ) (runs : Runs) (list : List ℕ) (kept : KeptSteps) → length kept.stages.items ≤ suc (length list) → HasStages model d v runs list kept
+pub stages-none : (model : Model) (d v : ℕ) (runs : Runs) (list : List ℕ) (kept : KeptSteps)
+    → length kept.stages.items ≤ suc (length list) → HasStages model d v runs list kept
 stages-none model d v runs list kept few = record { told = λ many. absurd (omega (arith, few, many)) }
 
 -- what is written of a list in place of the first, where there is one
-pub ends-set : (model : Model) (d v : ℕ) (list : List ℕ) (ends : List KeptTightWays) (new : KeptTightWays) → AreKeptWays model d v list new → HaveKeptWays model d v list (slice_set ends 0 new)
+pub ends-set : (model : Model) (d v : ℕ) (list : List ℕ) (ends : List KeptTightWays) (new : KeptTightWays)
+    → AreKeptWays model d v list new → HaveKeptWays model d v list (slice_set ends 0 new)
 ends-set model d v list ends new is = record {
   first = λ other low. subst (AreKeptWays model d v list) (sym (get_or-set_same ends 0 new other (let n = length-set ends 0 new in omega (arith, n, low)))) is;
 }
@@ -231,11 +266,14 @@ ends-none model d v list ends none = record { first = λ other low. absurd (omeg
 
 -- ---- a list is replaced
 
-pub kept-set : (model : Model) (d : ℕ) (lists : List (List ℕ)) (kept : List KeptList) (v : ℕ) (list : List ℕ) (new : KeptList) → AreKept model d lists kept → v < length lists → v < length kept → IsKept model d v list new
+pub kept-set : (model : Model) (d : ℕ) (lists : List (List ℕ)) (kept : List KeptList) (v : ℕ) (list : List ℕ) (new : KeptList)
+    → AreKept model d lists kept → v < length lists → v < length kept → IsKept model d v list new
     → HasRoom (vehicle_at model v).schedule new → AreKept model d (with_route lists v list) (slice_set kept v new)
 kept-set model d lists kept v list new h known low is room = record {
-  each = λ u other under. set-at (IsKept model d) lists kept v list new low is u other (λ _. known) (λ _. h.each u other (let l = length-set kept v new in omega (arith, under, l)));
-  room = λ u other under. set-at (λ (w : ℕ) (l : List ℕ) (k : KeptList). HasRoom (vehicle_at model w).schedule k) lists kept v list new low room u other (λ _. known) (λ _. h.room u other (let l = length-set kept v new in omega (arith, under, l)));
+  each = λ u other under. set-at (IsKept model d) lists kept v list new low is u other
+      (λ _. known) (λ _. h.each u other (let l = length-set kept v new in omega (arith, under, l)));
+  room = λ u other under. set-at (λ (w : ℕ) (l : List ℕ) (k : KeptList). HasRoom (vehicle_at model w).schedule k) lists kept
+      v list new low room u other (λ _. known) (λ _. h.room u other (let l = length-set kept v new in omega (arith, under, l)));
 }
 
 -- as much room as before
@@ -243,9 +281,11 @@ pub room-stays : (rule : ScheduleRule) (old new : KeptList) → length new.ends.
 room-stays rule old new same room = same ∙ room
 
 -- where it is not kept, what is kept stays
-pub kept-stays : (model : Model) (d : ℕ) (lists : List (List ℕ)) (kept : List KeptList) (v : ℕ) (list : List ℕ) → AreKept model d lists kept → length kept ≤ v → AreKept model d (with_route lists v list) kept
+pub kept-stays : (model : Model) (d : ℕ) (lists : List (List ℕ)) (kept : List KeptList) (v : ℕ) (list : List ℕ)
+    → AreKept model d lists kept → length kept ≤ v → AreKept model d (with_route lists v list) kept
 kept-stays model d lists kept v list h high = record {
-  each = λ u other under. subst (λ l. IsKept model d u l (slice_index_or kept u other)) (sym (route_set_other lists v u list (λ e. absurd (omega (arith, e, under, high))))) (h.each u other under);
+  each = λ u other under. subst (λ l. IsKept model d u l (slice_index_or kept u other))
+      (sym (route_set_other lists v u list (λ e. absurd (omega (arith, e, under, high))))) (h.each u other under);
   room = λ u other under. h.room u other under;
 }
 

@@ -1,5 +1,6 @@
 -- How far the lists reach that a change leaves as they are, told by the extent of them.
-use Rattle.std.proofs.Common.{◌≡◌, ◌∙◌, ◌<◌, ℕ, zero, suc, Bool, true, false, true≢false, cond, not, List, length, Option, Some, None, refl, add-one, ap, sym, subst, arith, inl, inr}
+use Rattle.std.proofs.Common.{◌≡◌, ◌∙◌, ◌<◌, ℕ, zero, suc, Bool, true, false, true≢false, cond, not, List, length, Option, Some, None, refl, add-one, ap, sym}
+use Rattle.std.proofs.Common.{subst, arith, inl, inr}
 use Rattle.std.specs.Prelude.{◌≤ℤ◌}
 use Rattle.std.proofs.lemmas.Bool.{cases_lt}
 use Rattle.std.proofs.lemmas.Int.{ints, int_max_is, int_min_is}
@@ -56,7 +57,8 @@ module _ (model : Model) (lists : List (List ℕ)) (parts : List ListAfter) (d :
       record { last = omega (arith, ints, a); start = omega (arith, ints, b) })
 
   -- it reaches no further than one that reaches over that list
-  is-within : (s t : Spread) (v : ℕ) → IsWithin s t → (gives parts v ≡ false → is_empty (route lists v) ≡ false → Reaches v t) → IsWithin (with_kept model lists parts d s v) t
+  is-within : (s t : Spread) (v : ℕ) → IsWithin s t
+      → (gives parts v ≡ false → is_empty (route lists v) ≡ false → Reaches v t) → IsWithin (with_kept model lists parts d s v) t
   is-within s t v h over = by (gives parts v) refl
     where
       there : (b : Bool) → is_empty (route lists v) ≡ b → gives parts v ≡ false → IsWithin (cond b s (reached model d v (route lists v) s)) t
@@ -96,7 +98,8 @@ module _ (model : Model) (lists : List (List ℕ)) (parts : List ListAfter) (d :
         subst (λ w. Reaches v (with_kept model lists parts d (kept n) w)) (sym here) (reaches (kept n) v away used))
   ])
 
-  kept-within : (t : Spread) → IsWithin no_spread t → ((v : ℕ) → gives parts v ≡ false → is_empty (route lists v) ≡ false → Reaches v t) → (n : ℕ) → IsWithin (kept n) t
+  kept-within : (t : Spread) → IsWithin no_spread t
+      → ((v : ℕ) → gives parts v ≡ false → is_empty (route lists v) ≡ false → Reaches v t) → (n : ℕ) → IsWithin (kept n) t
   kept-within t h over zero = h
   kept-within t h over (suc n) = subst (λ s. IsWithin s t) (sym (kept-next n)) (is-within (kept n) t n (kept-within t h over n) (over n))
 
@@ -111,7 +114,8 @@ module _ (model : Model) (lists : List (List ℕ)) (parts : List ListAfter) (d :
       stay : (v : ℕ) → not (names (vehicles_of parts) v) ≡ true → gives parts v ≡ false
       stay v e = sym (names-gives parts v) ∙ is-not (names (vehicles_of parts) v) e
 
-      over : (extent : Option Extent) → IsReach model d lists (λ v. not (names (vehicles_of parts) v)) extent → (v : ℕ) → gives parts v ≡ false → is_empty (route lists v) ≡ false → Reaches v (spread_of extent)
+      over : (extent : Option Extent) → IsReach model d lists (λ v. not (names (vehicles_of parts) v)) extent
+          → (v : ℕ) → gives parts v ≡ false → is_empty (route lists v) ≡ false → Reaches v (spread_of extent)
       over None h v away used = absurd (true≢false (sym (h v (not-named v away)) ∙ used))
       over (Some e) h v away used = record { last = h.ends v (not-named v away) used; start = h.starts v (not-named v away) used }
 
@@ -119,17 +123,20 @@ module _ (model : Model) (lists : List (List ℕ)) (parts : List ListAfter) (d :
       least-in None r = record { last = omega (arith, ints); start = omega (arith, ints); span = refl }
       least-in (Some e) r = record { last = r.last.at_least; start = r.start.at_most; span = refl }
 
-      within : (extent : Option Extent) → IsReach model d lists (λ v. not (names (vehicles_of parts) v)) extent → IsSpreadInRange (spread_of extent) → IsWithin (kept (length lists)) (spread_of extent)
+      within : (extent : Option Extent) → IsReach model d lists (λ v. not (names (vehicles_of parts) v)) extent
+          → IsSpreadInRange (spread_of extent) → IsWithin (kept (length lists)) (spread_of extent)
       within extent h r = kept-within (spread_of extent) (least-in extent r) (over extent h) (length lists)
 
-      last : (extent : Option Extent) → IsReach model d lists (λ v. not (names (vehicles_of parts) v)) extent → IsSpreadInRange (spread_of extent) → (spread_of extent).last ≡ (kept (length lists)).last
+      last : (extent : Option Extent) → IsReach model d lists (λ v. not (names (vehicles_of parts) v)) extent
+          → IsSpreadInRange (spread_of extent) → (spread_of extent).last ≡ (kept (length lists)).last
       last None h r = let w = (within None h r).last in let l = (kept-low (length lists)).last in omega (arith, ints, w, l)
       last (Some e) h r =
           let w = (within (Some e) h r).last in
           let l = (kept-over (length lists) h.last.0 (used-known lists h.last.0 h.last.2) (stay h.last.0 h.last.1) h.last.2).last in
           omega (arith, ints, w, h.last.3, l)
 
-      start : (extent : Option Extent) → IsReach model d lists (λ v. not (names (vehicles_of parts) v)) extent → IsSpreadInRange (spread_of extent) → (spread_of extent).start ≡ (kept (length lists)).start
+      start : (extent : Option Extent) → IsReach model d lists (λ v. not (names (vehicles_of parts) v)) extent
+          → IsSpreadInRange (spread_of extent) → (spread_of extent).start ≡ (kept (length lists)).start
       start None h r = let w = (within None h r).start in let l = (kept-low (length lists)).start in omega (arith, ints, w, l)
       start (Some e) h r =
           let w = (within (Some e) h r).start in

@@ -22,16 +22,19 @@ use Rattle.vr_costfilter.proofs.PartLemmas.{IsListOf}
 
 -- a list that a vehicle may have, as it is read
 pub tour-of : (model : Model) (v : ℕ) (list : List ℕ) → v < length model.vehicles → IsListOf model list → (read : List ℕ) → read ≡ list → IsTourOf model v read
-tour-of model v list known is read same = subst (IsTourOf model v) (sym same) (record { vehicle = known; visits = is.tour.visits; distinct = is.tour.distinct; few = is.few })
+tour-of model v list known is read same =
+    subst (IsTourOf model v) (sym same) (record { vehicle = known; visits = is.tour.visits; distinct = is.tour.distinct; few = is.few })
 
 -- what is looked up of a dimension, as it is read of all of them
-pub known-at : (model : Model) (tables : List Table) → AreTables model tables → (d : ℕ) (table : Table) → table ≡ slice_index_or tables d table → d < length tables → IsLookedUp model d table
+pub known-at : (model : Model) (tables : List Table) → AreTables model tables → (d : ℕ) (table : Table)
+    → table ≡ slice_index_or tables d table → d < length tables → IsLookedUp model d table
 known-at model tables are d table is under =
     let low : d < length model.dimensions = omega (arith, are.one_of_each, under) in
     record { dimension = low; told = table_at model tables are d table is low }
 
 -- a part of a change before which and after which lists are valid, for a model as it is seen
-pub valid-part : (model seen : Model) → model ≡ seen → IsWellFormed model → (kept : List (List KeptList)) (tours : Tours) (parts : List ListAfter) → IsValidChange (AreCumulsAt seen kept) seen tours parts → (k : ℕ) → k < length parts → IsValidPart model tours.lists parts k
+pub valid-part : (model seen : Model) → model ≡ seen → IsWellFormed model → (kept : List (List KeptList)) (tours : Tours) (parts : List ListAfter)
+    → IsValidChange (AreCumulsAt seen kept) seen tours parts → (k : ℕ) → k < length parts → IsValidPart model tours.lists parts k
 valid-part model seen same well kept tours parts h k part = record {
   well_formed = well;
   before = subst (λ m. IsTrue (is_valid m tours.lists)) (sym same) h.stands.before;
@@ -41,7 +44,8 @@ valid-part model seen same well kept tours parts h k part = record {
 }
 
 -- a change stays valid where the model stays as it was
-pub still-valid : {before later : Tours → Type 0} {model other : Model} {tours : Tours} {parts : List ListAfter} → IsValidChange before model tours parts → other ≡ model → later tours → IsValidChange later other tours parts
+pub still-valid : {before later : Tours → Type 0} {model other : Model} {tours : Tours} {parts : List ListAfter}
+    → IsValidChange before model tours parts → other ≡ model → later tours → IsValidChange later other tours parts
 still-valid {before} {later} {model} {other} {tours} {parts} h same stands = record {
   stands = stands;
   made = h.made;
@@ -49,7 +53,8 @@ still-valid {before} {later} {model} {other} {tours} {parts} h same stands = rec
 }
 
 -- what is told of the lists after a change of lists is in its range
-pub early-range : (model : Model) (lists : List (List ℕ)) (parts : List ListAfter) (rows : List (List Early)) → AreEarlyParts model lists parts rows → AreEarlyInRange model parts rows
+pub early-range : (model : Model) (lists : List (List ℕ)) (parts : List ListAfter) (rows : List (List Early))
+    → AreEarlyParts model lists parts rows → AreEarlyInRange model parts rows
 early-range model lists parts rows h = record {
   well_formed = h.well_formed;
   few = h.earlies.few;
@@ -59,8 +64,10 @@ early-range model lists parts rows h = record {
 
 -- ---- cumuls of lists at which a part of the cost stands
 
-pub plans-cumuls : (kept : KeptPlans) (tours : Tours) (parts : List ListAfter) → IsValidChange (StandsPlans kept) kept.model tours parts → IsValidChange (AreCumulsAt kept.model kept.cumuls) kept.model tours parts
+pub plans-cumuls : (kept : KeptPlans) (tours : Tours) (parts : List ListAfter)
+    → IsValidChange (StandsPlans kept) kept.model tours parts → IsValidChange (AreCumulsAt kept.model kept.cumuls) kept.model tours parts
 plans-cumuls kept tours parts h = record { stands = record { before = h.stands.valid; cumuls = h.stands.cumuls }; made = h.made; valid = h.valid }
 
-pub spans-cumuls : (kept : KeptSpans) (tours : Tours) (parts : List ListAfter) → IsValidChange (StandsSpans kept) kept.model tours parts → IsValidChange (AreCumulsAt kept.model kept.cumuls) kept.model tours parts
+pub spans-cumuls : (kept : KeptSpans) (tours : Tours) (parts : List ListAfter)
+    → IsValidChange (StandsSpans kept) kept.model tours parts → IsValidChange (AreCumulsAt kept.model kept.cumuls) kept.model tours parts
 spans-cumuls kept tours parts h = record { stands = record { before = h.stands.valid; cumuls = h.stands.cumuls }; made = h.made; valid = h.valid }

@@ -1,5 +1,6 @@
 -- No schedule is earlier than floors, and than the cumuls that are found by them.
-use Rattle.std.proofs.Common.{◌≡◌, ◌∙◌, ℕ, zero, suc, ◌+◌, ◌<◌, ◌≤◌, ◌⊎◌, inl, inr, List, [], ◌∷◌, ◌++◌, length, length-append, refl, sym, ap, subst, arith, Some}
+use Rattle.std.proofs.Common.{◌≡◌, ◌∙◌, ℕ, zero, suc, ◌+◌, ◌<◌, ◌≤◌, ◌⊎◌, inl, inr, List, [], ◌∷◌, ◌++◌, length, length-append, refl, sym, ap, subst, arith}
+use Rattle.std.proofs.Common.{Some}
 use Rattle.std.specs.Prelude.{ℤ, pos, ◌-ℤ◌, ◌≤ℤ◌, false, IsTrue, slice_index_or}
 use Rattle.std.proofs.lemmas.Bool.{and_parts, and_from}
 use Rattle.std.proofs.lemmas.Int.{ints, int_max_is}
@@ -61,7 +62,8 @@ module _ (line : Line) (stops : length line.allowed ≡ suc (length line.arcs)) 
     many = let n = length-append cumuls (next ∷ []) in omega (arith, n, are.many);
     allowed = λ i le. elim (earlier i le) [
       | inl old ↦ subst (λ x. IsTrue (allows line i x)) (sym (before i old)) (are.allowed i old)
-      | inr new ↦ subst (λ j. IsTrue (allows line j (number_at (cumuls ++ next ∷ []) j))) (sym new) (subst (λ x. IsTrue (allows line (suc k) x)) (sym last) there)
+      | inr new ↦
+          subst (λ j. IsTrue (allows line j (number_at (cumuls ++ next ∷ []) j))) (sym new) (subst (λ x. IsTrue (allows line (suc k) x)) (sym last) there)
     ];
     slacks = λ i less. elim (sooner i less) [
       | inl old ↦ subst (IsIn (pos 0) line.slack_max) (sym (same i old)) (are.slacks i old)
@@ -103,13 +105,16 @@ module _ (model : Model) (d v : ℕ) (runs : Runs) (list : List ℕ) (L : Line) 
   arcs-many = ap length by.arcs ∙ arcs_of_line model d v list
 
   -- the transit of an arc of the line
-  pub arc-transit : (k origin target : ℕ) → k ≤ length list → origin ≡ node_at_stop model v list k → target ≡ node_at_stop model v list (k + 1) → transit model d v origin target ≡ (arc_at L k).transit
+  pub arc-transit : (k origin target : ℕ) → k ≤ length list → origin ≡ node_at_stop model v list k
+      → target ≡ node_at_stop model v list (k + 1) → transit model d v origin target ≡ (arc_at L k).transit
   arc-transit k origin target le from to =
-      let hop = hop_between_stops model d v list k origin target (hop_of (dimension_at model d).slack_max (line_arc model d v (record { vehicle = v; origin = origin; target = target }))) le from to refl in
+      let hop = hop_between_stops model d v list k origin target
+      (hop_of (dimension_at model d).slack_max (line_arc model d v (record { vehicle = v; origin = origin; target = target }))) le from to refl in
       ap (λ (h : Hop). h.transit) hop ∙ ap (λ (arcs : List Arc). (slice_index_or arcs k no_arc).transit) (sym by.arcs)
 
   pub node-behind : (k : ℕ) → k < length list → slice_index_or list k 0 ≡ node_at_stop model v list (k + 1)
-  node-behind k low = sym (get_or_append_left list ((vehicle_at model v).end ∷ []) 0 k low) ∙ ap (node_at_stop model v list) (let e : suc k ≡ k + 1 = omega arith in e)
+  node-behind k low = sym (get_or_append_left list ((vehicle_at model v).end ∷ []) 0 k low)
+      ∙ ap (node_at_stop model v list) (let e : suc k ≡ k + 1 = omega arith in e)
 
   -- the run that the start allows
   pub start-allows : IsAllowedRun L 0 runs.start
@@ -120,7 +125,8 @@ module _ (model : Model) (d v : ℕ) (runs : Runs) (list : List ℕ) (L : Line) 
   visit-allows k low =
       let next : suc k ≡ k + 1 = omega arith in
       let there = by.has.each (suc k) (let n = arcs-many in omega (arith, n, low)) in
-      subst (λ i. IsAllowedRun L i (slice_index_or runs.visits (slice_index_or list k 0) no_run)) next (subst (IsAllowedRun L (suc k)) (stop-visit runs list k low) there)
+      subst (λ i. IsAllowedRun L i (slice_index_or runs.visits (slice_index_or list k 0) no_run))
+      next (subst (IsAllowedRun L (suc k)) (stop-visit runs list k low) there)
 
   -- the run that the end allows
   pub end-allows : (k : ℕ) → k ≡ length list → IsAllowedRun L (k + 1) runs.finish
@@ -129,7 +135,8 @@ module _ (model : Model) (d v : ℕ) (runs : Runs) (list : List ℕ) (L : Line) 
       let there = by.has.each (suc (length list)) (let n = arcs-many in omega (arith, n)) in
       subst (λ i. IsAllowedRun L i runs.finish) next (subst (IsAllowedRun L (suc (length list))) (stop-last runs list) there)
 
-module _ (model : Model) (d v : ℕ) (runs : Runs) (list : List ℕ) (L : Line) (by : AllowsRuns model d v runs list L) (steps : List Step) (steps_are : AreSteps model d v runs list steps) where
+module _ (model : Model) (d v : ℕ) (runs : Runs) (list : List ℕ) (L : Line)
+    (by : AllowsRuns model d v runs list L) (steps : List Step) (steps_are : AreSteps model d v runs list steps) where
   abbrev end : Step
   end = end_step model v runs
 
@@ -158,10 +165,12 @@ module _ (model : Model) (d v : ℕ) (runs : Runs) (list : List ℕ) (L : Line) 
   -- the run of the visit to which a step leads
   pub run-of : (k : ℕ) (other : Step) → k < length list → IsAllowedRun L (k + 1) (slice_index_or runs.visits (slice_index_or steps k other).node no_run)
   run-of k other low =
-      subst (λ i. IsAllowedRun L (k + 1) (slice_index_or runs.visits i no_run)) (sym (node-of model d v runs list steps steps_are k other low)) (visit-allows model d v runs list L by k low)
+      subst (λ i. IsAllowedRun L (k + 1) (slice_index_or runs.visits i no_run))
+      (sym (node-of model d v runs list steps steps_are k other low)) (visit-allows model d v runs list L by k low)
 
   -- a floor before a stop where no schedule is earlier than the floor there
-  floor-least : (k : ℕ) (allowed : Run) (node : ℕ) (next : Step) (it : ℤ) → k ≤ length list → IsAllowedRun L k allowed → node ≡ node_at_stop model v list k → next.node ≡ node_at_stop model v list (k + 1)
+  floor-least : (k : ℕ) (allowed : Run) (node : ℕ) (next : Step) (it : ℤ) → k ≤ length list
+      → IsAllowedRun L k allowed → node ≡ node_at_stop model v list k → next.node ≡ node_at_stop model v list (k + 1)
       → stop_floor model d v node allowed next ≡ Some it → (plan : Plan) → IsSchedule L plan → next.floor ≤ℤ cumul plan (suc k) → it ≤ℤ cumul plan k
   floor-least k allowed node next it le is from to e plan s there =
       let n = all-arcs in
@@ -175,7 +184,8 @@ module _ (model : Model) (d v : ℕ) (runs : Runs) (list : List ℕ) (L : Line) 
       omega (arith, ints, floor.is, m, way, here, left, most, by.slack_max, there)
 
   -- no schedule comes to a visit, or to the end, before its floor
-  pub floors-least : (plan : Plan) → IsSchedule L plan → (j k : ℕ) → j + k ≡ length list → (slice_index_or steps k (end_step model v runs)).floor ≤ℤ cumul plan (k + 1)
+  pub floors-least : (plan : Plan) → IsSchedule L plan → (j k : ℕ) → j + k ≡ length list
+      → (slice_index_or steps k (end_step model v runs)).floor ≤ℤ cumul plan (k + 1)
   floors-least plan s zero k at =
       let last : k ≡ length list = omega (arith, at) in
       let n = all-arcs in
@@ -189,13 +199,17 @@ module _ (model : Model) (d v : ℕ) (runs : Runs) (list : List ℕ) (L : Line) 
       let next = floors-least plan s j (suc k) (omega (arith, at)) in
       let e : suc k + 1 ≡ suc (k + 1) = omega arith in
       let f : suc k ≡ k + 1 = omega arith in
-      floor-least (k + 1) (slice_index_or runs.visits step.node no_run) step.node (slice_index_or steps (suc k) end) step.floor (omega (arith, low)) (run-of k end low) (step-node k (omega (arith, low)))
-      (step-node (suc k) (omega (arith, low)) ∙ ap (λ i. node_at_stop model v list (i + 1)) f) is.floor plan s (subst (λ i. (slice_index_or steps (suc k) end).floor ≤ℤ cumul plan i) e next)
+      floor-least (k + 1) (slice_index_or runs.visits step.node no_run) step.node (slice_index_or steps (suc k) end)
+      step.floor (omega (arith, low)) (run-of k end low) (step-node k (omega (arith, low)))
+      (step-node (suc k) (omega (arith, low)) ∙ ap (λ i. node_at_stop model v list (i + 1)) f) is.floor
+      plan s (subst (λ i. (slice_index_or steps (suc k) end).floor ≤ℤ cumul plan i) e next)
 
   -- no schedule begins before the floor of its start
-  pub start-least : (it : ℤ) → stop_floor model d v (vehicle_at model v).start runs.start (slice_index_or steps 0 (end_step model v runs)) ≡ Some it → (plan : Plan) → IsSchedule L plan → it ≤ℤ cumul plan 0
+  pub start-least : (it : ℤ) → stop_floor model d v (vehicle_at model v).start runs.start (slice_index_or steps 0 (end_step model v runs)) ≡ Some it
+      → (plan : Plan) → IsSchedule L plan → it ≤ℤ cumul plan 0
   start-least it e plan s =
       let first = floors-least plan s (length list) 0 (omega arith) in
       let f : 0 + 1 ≡ suc 0 = omega arith in
-      floor-least 0 runs.start (vehicle_at model v).start (slice_index_or steps 0 end) it (omega arith) (start-allows model d v runs list L by) refl (step-node 0 (omega arith))
+      floor-least 0 runs.start (vehicle_at model v).start (slice_index_or steps 0 end) it
+      (omega arith) (start-allows model d v runs list L by) refl (step-node 0 (omega arith))
       e plan s (subst (λ i. (slice_index_or steps 0 end).floor ≤ℤ cumul plan i) f first)

@@ -36,11 +36,13 @@ total-least f (x ∷ xs) each =
     omega (arith, ints, here, rest)
 
 -- a list of valid lists costs no less than its spans at least
-plans-least : (model : Model) → IsWellFormed model → (lists : List (List ℕ)) → IsTrue (is_valid model lists) → (v : ℕ) → v < length model.vehicles → v < length lists → spans_least model v (route lists v) ≤ℤ plans_cost model v (route lists v)
+plans-least : (model : Model) → IsWellFormed model → (lists : List (List ℕ)) → IsTrue (is_valid model lists) → (v : ℕ)
+    → v < length model.vehicles → v < length lists → spans_least model v (route lists v) ≤ℤ plans_cost model v (route lists v)
 plans-least model well lists valid v vehicle known = by (is_empty (route lists v)) refl
   where
     by : (b : Bool) → is_empty (route lists v) ≡ b
-        → cond b (pos 0) (total_by (λ d. number_at (dimension_at model d).span_costs v *ℤ least_span model d v (route lists v)) (below (length model.dimensions)))
+        → cond b (pos 0)
+        (total_by (λ d. number_at (dimension_at model d).span_costs v *ℤ least_span model d v (route lists v)) (below (length model.dimensions)))
         ≤ℤ cond b (pos 0) (total_by (λ d. soft_with model d v (route lists v) +ℤ span_with model d v (route lists v)) (below (length model.dimensions)))
     by true used = omega (arith, ints)
     by false used =
@@ -50,26 +52,34 @@ plans-least model well lists valid v vehicle known = by (is_empty (route lists v
         let e = total_by-less f g (below (length model.dimensions)) in
         omega (arith, ints, s, e)
       where
-        each : (d : ℕ) → d < length model.dimensions → pos 0 ≤ℤ ((soft_with model d v (route lists v) +ℤ span_with model d v (route lists v)) -ℤ (number_at (dimension_at model d).span_costs v *ℤ least_span model d v (route lists v)))
+        each : (d : ℕ) → d < length model.dimensions → pos 0 ≤ℤ ((soft_with model d v (route lists v) +ℤ span_with model d v (route lists v))
+            -ℤ (number_at (dimension_at model d).span_costs v *ℤ least_span model d v (route lists v)))
         each d low =
             let plan = plan-at model lists d v low known used in
-            let soft = subst (λ (p : Plan). pos 0 ≤ℤ soft_of (dimension_at model d) v (route lists v) p.cumuls) plan (softs-up_to model well lists valid d v low known used).at_least in
+            let soft = subst (λ (p : Plan). pos 0 ≤ℤ soft_of (dimension_at model d) v (route lists v) p.cumuls)
+            plan (softs-up_to model well lists valid d v low known used).at_least in
             let is = well.each_dimension d no_dimension low in
             let coefficient = (is.span_costs_in_range v (pos 0) (omega (arith, is.span_cost_of_each_vehicle, vehicle))).at_least in
-            let span = times-le (number_at (dimension_at model d).span_costs v) (least_span model d v (route lists v)) (last_with model d v (route lists v) -ℤ start_with model d v (route lists v)) coefficient (no-earlier model lists valid d v low known used well).span in
+            let span = times-le (number_at (dimension_at model d).span_costs v) (least_span model d v (route lists v))
+            (last_with model d v (route lists v) -ℤ start_with model d v (route lists v))
+            coefficient (no-earlier model lists valid d v low known used well).span in
             omega (arith, ints, soft, span)
 
-module _ (model : Model) (well : IsWellFormed model) (lists : List (List ℕ)) (parts : List ListAfter) (are : AreParts lists parts) (many : length lists ≡ length model.vehicles) (valid : IsTrue (is_valid model (changed lists parts))) where
-  new-least : All (λ part. pos 0 ≤ℤ (plans_cost model part.vehicle (joined lists part.pieces) -ℤ spans_least model part.vehicle (joined lists part.pieces))) parts
+module _ (model : Model) (well : IsWellFormed model) (lists : List (List ℕ)) (parts : List ListAfter) (are : AreParts lists parts)
+    (many : length lists ≡ length model.vehicles) (valid : IsTrue (is_valid model (changed lists parts))) where
+  new-least : All (λ part. pos 0 ≤ℤ (plans_cost model part.vehicle (joined lists part.pieces) -ℤ spans_least model part.vehicle (joined lists part.pieces)))
+      parts
   new-least k d low =
       let part = part_at parts k in
       let vehicle = are.each_vehicle k no_part low in
       let known : part.vehicle < length (changed lists parts) = (let n = as_many_lists lists parts in omega (arith, n, vehicle)) in
       let here = plans-least model well (changed lists parts) valid part.vehicle (omega (arith, vehicle, many)) known in
       let there = subst (λ l. spans_least model part.vehicle l ≤ℤ plans_cost model part.vehicle l) (part-list lists parts are k low) here in
-      subst (λ (p : ListAfter). pos 0 ≤ℤ (plans_cost model p.vehicle (joined lists p.pieces) -ℤ spans_least model p.vehicle (joined lists p.pieces))) (get_or_default parts k no_part d low) (omega (arith, ints, there))
+      subst (λ (p : ListAfter). pos 0 ≤ℤ (plans_cost model p.vehicle (joined lists p.pieces) -ℤ spans_least model p.vehicle (joined lists p.pieces)))
+      (get_or_default parts k no_part d low) (omega (arith, ints, there))
 
-  pub change-least : total_by (part_less (spans_least model) (plans_cost model) lists) parts ≤ℤ (soft_and_span model (changed lists parts) -ℤ soft_and_span model lists)
+  pub change-least : total_by (part_less (spans_least model) (plans_cost model) lists) parts
+      ≤ℤ (soft_and_span model (changed lists parts) -ℤ soft_and_span model lists)
   change-least =
       let new : ListAfter → ℤ = λ part. plans_cost model part.vehicle (joined lists part.pieces) in
       let old : ListAfter → ℤ = λ part. plans_cost model part.vehicle (route lists part.vehicle) in

@@ -33,9 +33,11 @@ list-of model well lists valid v =
     }
 
 -- the list of part k
-pub list-after : (model : Model) → IsWellFormed model → (lists : List (List ℕ)) (parts : List ListAfter) → AreParts lists parts → IsTrue (is_valid model (changed lists parts)) → (k : ℕ) → k < length parts
+pub list-after : (model : Model) → IsWellFormed model → (lists : List (List ℕ)) (parts : List ListAfter)
+    → AreParts lists parts → IsTrue (is_valid model (changed lists parts)) → (k : ℕ) → k < length parts
     → IsListOf model (joined lists (part_at parts k).pieces)
-list-after model well lists parts are valid k low = subst (IsListOf model) (part_is lists parts are k low) (list-of model well (changed lists parts) valid (part_at parts k).vehicle)
+list-after model well lists parts are valid k low =
+    subst (IsListOf model) (part_is lists parts are k low) (list-of model well (changed lists parts) valid (part_at parts k).vehicle)
 
 pub used-after : (model : Model) (list : List ℕ) → IsListOf model list → is_empty list ≡ false → IsUsed model list
 used-after model list is some = record { some = some; tour = is.tour }
@@ -49,14 +51,17 @@ module _ (model : Model) (lists : List (List ℕ)) (valid : IsTrue (is_valid mod
   feasible-of : (d v : ℕ) → d < length model.dimensions → v < length lists → is_empty (route lists v) ≡ false → IsFeasible (line model d v (route lists v))
   feasible-of d v low known some = (plan_at (assigned model lists) d v, open_meets_its_lines model lists opened d v low known some)
 
-pub feasible-after : (model : Model) (lists : List (List ℕ)) (parts : List ListAfter) → AreParts lists parts → IsTrue (is_valid model (changed lists parts)) → (k : ℕ) → k < length parts → (d : ℕ) → d < length model.dimensions
+pub feasible-after : (model : Model) (lists : List (List ℕ)) (parts : List ListAfter) → AreParts lists parts
+    → IsTrue (is_valid model (changed lists parts)) → (k : ℕ) → k < length parts → (d : ℕ) → d < length model.dimensions
     → is_empty (joined lists (part_at parts k).pieces) ≡ false → IsFeasible (line model d (part_at parts k).vehicle (joined lists (part_at parts k).pieces))
 feasible-after model lists parts are valid k low d dimension some =
     let v = (part_at parts k).vehicle in
     let same = part_is lists parts are k low in
     let known : v < length (changed lists parts) = (let n = as_many_lists lists parts in let h = are.each_vehicle k no_part low in omega (arith, n, h)) in
-    subst (λ l. IsFeasible (line model d v l)) same (feasible-of model (changed lists parts) valid d v dimension known (subst (λ l. is_empty l ≡ false) (sym same) some))
+    subst (λ l. IsFeasible (line model d v l)) same
+    (feasible-of model (changed lists parts) valid d v dimension known (subst (λ l. is_empty l ≡ false) (sym same) some))
 
 -- the list that a part of a change gives its vehicle
 pub list-of-part : (part : PartAfter) → IsListOf part.model.now (list_after part)
-list-of-part part = list-after part.model.now part.sound.well_formed part.routes.now.lists part.change.now part.sound.parts_are part.sound.valid part.k part.sound.part
+list-of-part part =
+    list-after part.model.now part.sound.well_formed part.routes.now.lists part.change.now part.sound.parts_are part.sound.valid part.k part.sound.part

@@ -1,5 +1,6 @@
 -- Soft bounds and spans as a sum over the lists of vehicles.
-use Rattle.std.proofs.Common.{◌≡◌, ◌∙◌, ℕ, suc, ◌<◌, ◌+◌, ◌*◌, Bool, true, false, cond, List, [], ◌∷◌, length, refl, ap, ap₂, sym, subst, arith, to_z, of_z, w64}
+use Rattle.std.proofs.Common.{◌≡◌, ◌∙◌, ℕ, suc, ◌<◌, ◌+◌, ◌*◌, Bool, true, false, cond, List, [], ◌∷◌, length, refl, ap, ap₂, sym, subst, arith, to_z, of_z}
+use Rattle.std.proofs.Common.{w64}
 use Rattle.std.specs.Prelude.{IsTrue, ℤ, pos, ◌+ℤ◌, ◌-ℤ◌, ◌*ℤ◌, ◌&&◌, slice_index_or}
 use Rattle.std.specs.List.{list_all, range_with_len}
 use Rattle.std.proofs.lemmas.Int.{ints}
@@ -24,16 +25,20 @@ use Rattle.vr_plan.proofs.ExtentLemmas.{times-none}
 use Rattle.vr_plan.proofs.PlanCostLemmas.{plan-at}
 use Rattle.vr_parts.specs.Sums.{sum_over_routes}
 use Rattle.vr_earliest.specs.Ways.{least_span}
-use Rattle.vr_costfilter.specs.PlanCosts.{pays_no_plan, plan_paid, plan_saved, plans_cost, spans_least, ArePlansLike, IsFrom, IsPlanCost, IsPlanCostIn, KeptPlans, StandsPlans}
+use Rattle.vr_costfilter.specs.PlanCosts.{pays_no_plan, plan_paid, plan_saved, plans_cost, spans_least, ArePlansLike, IsFrom, IsPlanCost, IsPlanCostIn}
+use Rattle.vr_costfilter.specs.PlanCosts.{KeptPlans, StandsPlans}
 
 -- ---- a sum over the lists
 
 module _ (model : Model) (lists : List (List ℕ)) where
   -- a sum over used vehicles and dimensions is one over lists
   over-lists : (f : ℕ → ℕ → Plan → ℤ) → over_plans model (assigned model lists) (λ d v. f d v (plan_at (assigned model lists) d v))
-      ≡ sum_range (λ v. cond (is_empty (route lists v)) (pos 0) (total_by (λ d. f d v (chosen_plan_of model d v (route lists v))) (below (length model.dimensions)))) 0 (length lists)
+      ≡ sum_range
+      (λ v. cond (is_empty (route lists v)) (pos 0) (total_by (λ d. f d v (chosen_plan_of model d v (route lists v))) (below (length model.dimensions))))
+      0 (length lists)
   over-lists f =
-      total_by-failing (λ v. total_by (λ d. f d v (plan_at (assigned model lists) d v)) (below (length model.dimensions))) (λ v. is_empty (route lists v)) (below (length lists))
+      total_by-failing (λ v. total_by (λ d. f d v (plan_at (assigned model lists) d v)) (below (length model.dimensions)))
+      (λ v. is_empty (route lists v)) (below (length lists))
       ∙ sum_same _ _ 0 (length lists) (λ v low known. at v (omega (arith, known)) (is_empty (route lists v)) refl)
     where
       at : (v : ℕ) → v < length lists → (b : Bool) → is_empty (route lists v) ≡ b
@@ -42,7 +47,8 @@ module _ (model : Model) (lists : List (List ℕ)) where
       at v known true e = ap (λ b. cond b (pos 0) (total_by (λ d. f d v (plan_at (assigned model lists) d v)) (below (length model.dimensions)))) e
           ∙ ap (λ b. cond b (pos 0) (total_by (λ d. f d v (chosen_plan_of model d v (route lists v))) (below (length model.dimensions)))) (sym e)
       at v known false e = ap (λ s. cond (is_empty (route lists v)) (pos 0) s)
-          (sum_same (λ d. f d v (plan_at (assigned model lists) d v)) (λ d. f d v (chosen_plan_of model d v (route lists v))) 0 (length model.dimensions) (λ d low under. ap (f d v) (plan-at model lists d v (omega (arith, under)) known e)))
+          (sum_same (λ d. f d v (plan_at (assigned model lists) d v)) (λ d. f d v (chosen_plan_of model d v (route lists v)))
+          0 (length model.dimensions) (λ d low under. ap (f d v) (plan-at model lists d v (omega (arith, under)) known e)))
 
   -- what soft bounds and spans cost is a sum over the lists
   pub plans-over : soft_part model (assigned model lists) +ℤ span_part model (assigned model lists) ≡ sum_over_routes (plans_cost model) lists
@@ -50,25 +56,33 @@ module _ (model : Model) (lists : List (List ℕ)) where
       let dims : List ℕ = below (length model.dimensions) in
       let f : ℕ → ℤ = λ v. total_by (λ d. soft_with model d v (route lists v)) dims in
       let g : ℕ → ℤ = λ v. total_by (λ d. span_with model d v (route lists v)) dims in
-      let a : soft_part model (assigned model lists) ≡ sum_range (λ v. cond (is_empty (route lists v)) (pos 0) (f v)) 0 (length lists) = over-lists (λ d v plan. soft_of (dimension_at model d) v (route lists v) plan.cumuls) in
-      let b : span_part model (assigned model lists) ≡ sum_range (λ v. cond (is_empty (route lists v)) (pos 0) (g v)) 0 (length lists) = over-lists (λ d v plan. number_at (dimension_at model d).span_costs v *ℤ (cumul plan (suc (length (route lists v))) -ℤ cumul plan 0)) in
+      let a : soft_part model (assigned model lists) ≡ sum_range (λ v. cond (is_empty (route lists v)) (pos 0) (f v)) 0 (length lists) =
+      over-lists (λ d v plan. soft_of (dimension_at model d) v (route lists v) plan.cumuls) in
+      let b : span_part model (assigned model lists) ≡ sum_range (λ v. cond (is_empty (route lists v)) (pos 0) (g v)) 0 (length lists) =
+      over-lists (λ d v plan. number_at (dimension_at model d).span_costs v *ℤ (cumul plan (suc (length (route lists v))) -ℤ cumul plan 0)) in
       let s = both f g 0 (length lists) in
-      let t : sum_range (λ v. cond (is_empty (route lists v)) (pos 0) (f v +ℤ g v)) 0 (length lists) ≡ sum_over_routes (plans_cost model) lists = sum_same (λ v. cond (is_empty (route lists v)) (pos 0) (f v +ℤ g v)) (λ v. plans_cost model v (route lists v)) 0 (length lists)
-      (λ v _ _. ap (λ z. cond (is_empty (route lists v)) (pos 0) z) (sym (total_by-plus (λ d. soft_with model d v (route lists v)) (λ d. span_with model d v (route lists v)) dims))) in
+      let t : sum_range (λ v. cond (is_empty (route lists v)) (pos 0) (f v +ℤ g v)) 0 (length lists) ≡ sum_over_routes (plans_cost model) lists =
+      sum_same (λ v. cond (is_empty (route lists v)) (pos 0) (f v +ℤ g v)) (λ v. plans_cost model v (route lists v)) 0 (length lists)
+      (λ v _ _. ap (λ z. cond (is_empty (route lists v)) (pos 0) z)
+      (sym (total_by-plus (λ d. soft_with model d v (route lists v)) (λ d. span_with model d v (route lists v)) dims))) in
       omega (arith, ints, a, b, s, t)
     where
       each : (b : Bool) (x y : ℤ) → cond b (pos 0) x +ℤ cond b (pos 0) y ≡ cond b (pos 0) (x +ℤ y)
       each true x y = omega (arith, ints)
       each false x y = refl
 
-      both : (f g : ℕ → ℤ) (a n : ℕ) → sum_range (λ v. cond (is_empty (route lists v)) (pos 0) (f v)) a n +ℤ sum_range (λ v. cond (is_empty (route lists v)) (pos 0) (g v)) a n
+      both : (f g : ℕ → ℤ) (a n : ℕ)
+          → sum_range (λ v. cond (is_empty (route lists v)) (pos 0) (f v)) a n +ℤ sum_range (λ v. cond (is_empty (route lists v)) (pos 0) (g v)) a n
           ≡ sum_range (λ v. cond (is_empty (route lists v)) (pos 0) (f v +ℤ g v)) a n
-      both f g a n = sym (total_by-plus (λ v. cond (is_empty (route lists v)) (pos 0) (f v)) (λ v. cond (is_empty (route lists v)) (pos 0) (g v)) (range_with_len a n)) ∙ sum_same _ _ a n (λ v _ _. each (is_empty (route lists v)) (f v) (g v))
+      both f g a n =
+          sym (total_by-plus (λ v. cond (is_empty (route lists v)) (pos 0) (f v)) (λ v. cond (is_empty (route lists v)) (pos 0) (g v)) (range_with_len a n))
+          ∙ sum_same _ _ a n (λ v _ _. each (is_empty (route lists v)) (f v) (g v))
 
 -- ---- where nothing is paid
 
 -- where a list pays nothing in any dimension, it costs nothing
-pub idle-all : (model : Model) (v : ℕ) (list : List ℕ) → ((d : ℕ) → d < length model.dimensions → PaysNothing (dimension_at model d) v list) → plans_cost model v list ≡ pos 0
+pub idle-all : (model : Model) (v : ℕ) (list : List ℕ)
+    → ((d : ℕ) → d < length model.dimensions → PaysNothing (dimension_at model d) v list) → plans_cost model v list ≡ pos 0
 idle-all model v list nothing = by (is_empty list)
   where
     none : total_by (λ d. soft_with model d v list +ℤ span_with model d v list) (below (length model.dimensions)) ≡ pos 0
@@ -83,14 +97,16 @@ idle-all model v list nothing = by (is_empty list)
     by false = none
 
 -- where it pays nothing in any dimension, its spans cost nothing
-pub idle-spans : (model : Model) (v : ℕ) (list : List ℕ) → ((d : ℕ) → d < length model.dimensions → PaysNothing (dimension_at model d) v list) → spans_least model v list ≡ pos 0
+pub idle-spans : (model : Model) (v : ℕ) (list : List ℕ)
+    → ((d : ℕ) → d < length model.dimensions → PaysNothing (dimension_at model d) v list) → spans_least model v list ≡ pos 0
 idle-spans model v list nothing = by (is_empty list)
   where
     none : total_by (λ d. number_at (dimension_at model d).span_costs v *ℤ least_span model d v list) (below (length model.dimensions)) ≡ pos 0
     none = sum_nothing (λ d. number_at (dimension_at model d).span_costs v *ℤ least_span model d v list) 0 (length model.dimensions) (λ d _ low.
         times-none (number_at (dimension_at model d).span_costs v) (least_span model d v list) (nothing d (omega (arith, low))).span)
 
-    by : (b : Bool) → cond b (pos 0) (total_by (λ d. number_at (dimension_at model d).span_costs v *ℤ least_span model d v list) (below (length model.dimensions))) ≡ pos 0
+    by : (b : Bool)
+        → cond b (pos 0) (total_by (λ d. number_at (dimension_at model d).span_costs v *ℤ least_span model d v list) (below (length model.dimensions))) ≡ pos 0
     by true = refl
     by false = none
 
@@ -105,7 +121,8 @@ all-same p q other (x ∷ xs) (y ∷ ys) many same =
 
 -- the tables of a model's dimensions say whether a plan is paid
 pub free-tables : (model : Model) (tables : List Table) → AreTables model tables → list_all (λ table. table.is_free) tables ≡ pays_no_plan model
-free-tables model tables are = all-same (λ table. table.is_free) is_free no_dimension tables model.dimensions are.one_of_each (λ d other low. (are.each d other low).is_free)
+free-tables model tables are =
+    all-same (λ table. table.is_free) is_free no_dimension tables model.dimensions are.one_of_each (λ d other low. (are.each d other low).is_free)
 
 -- no list costs anything, and no span does
 pub record IsIdle (model : Model) : Type 0 where
@@ -120,7 +137,8 @@ idle-where model none = record {
 }
   where
     nothing : (d : ℕ) → d < length model.dimensions → (v : ℕ) (list : List ℕ) → PaysNothing (dimension_at model d) v list
-    nothing d low v list = pays_nothing_where (dimension_at model d) v list (free_pays (dimension_at model d) (all-from_list_all is_free model.dimensions none d no_dimension low) v list)
+    nothing d low v list = pays_nothing_where (dimension_at model d) v list
+        (free_pays (dimension_at model d) (all-from_list_all is_free model.dimensions none d no_dimension low) v list)
 
 pub idle-sum : (model : Model) → IsIdle model → (lists : List (List ℕ)) → sum_over_routes (plans_cost model) lists ≡ pos 0
 idle-sum model idle lists = sum_nothing (λ v. plans_cost model v (route lists v)) 0 (length lists) (λ v _ _. idle.plans v (route lists v))
@@ -141,7 +159,8 @@ pub record IsCostIn (model : Model) (v : ℕ) (list : List ℕ) (n : ℕ) (cost 
   pub range : IsFrom (plan_saved * n) (plan_paid * n) cost
 
 -- in one dimension more
-pub cost-in-more : (model : Model) (v : ℕ) (list : List ℕ) (n : ℕ) (cost one next : ℤ) → IsCostIn model v list n cost → one ≡ soft_with model n v list +ℤ span_with model n v list → IsPlanCostIn one → next ≡ cost +ℤ one → IsCostIn model v list (n + 1) next
+pub cost-in-more : (model : Model) (v : ℕ) (list : List ℕ) (n : ℕ) (cost one next : ℤ) → IsCostIn model v list n cost
+    → one ≡ soft_with model n v list +ℤ span_with model n v list → IsPlanCostIn one → next ≡ cost +ℤ one → IsCostIn model v list (n + 1) next
 cost-in-more model v list n cost one next h value small is =
     let f : ℕ → ℤ = λ d. soft_with model d v list +ℤ span_with model d v list in
     let more = total_by-more f n in
@@ -152,7 +171,8 @@ cost-in-more model v list n cost one next h value small is =
     }
 
 -- in all of them
-pub cost-in-all : (model : Model) (v : ℕ) (list : List ℕ) → is_empty list ≡ false → (n : ℕ) → n ≡ length model.dimensions → (cost : ℤ) → IsCostIn model v list n cost → cost ≡ plans_cost model v list
+pub cost-in-all : (model : Model) (v : ℕ) (list : List ℕ) → is_empty list ≡ false → (n : ℕ)
+    → n ≡ length model.dimensions → (cost : ℤ) → IsCostIn model v list n cost → cost ≡ plans_cost model v list
 cost-in-all model v list some n all cost h =
     let f : ℕ → ℤ = λ d. soft_with model d v list +ℤ span_with model d v list in
     h.sum ∙ ap (λ k. total_by f (below k)) all ∙ sym (ap (λ b. cond b (pos 0) (total_by f (below (length model.dimensions)))) some)
@@ -171,5 +191,6 @@ plans-like before later tours stands like =
       many = ap (λ (l : List ℤ). length l) like.costs ∙ stands.many ∙ ap (λ (m : Model). length m.vehicles) same;
       costs = λ v known. ap (λ l. number_at l v) like.costs ∙ stands.costs v known ∙ ap (λ (m : Model). plans_cost m v (route tours.lists v)) same;
       range = λ v known. subst (λ l. IsPlanCost (number_at l v)) (sym like.costs) (stands.range v known);
-      cumuls = subst (λ (m : Model). AreAllKept m tours.lists later.cumuls) same (subst (λ ks. AreAllKept before.model tours.lists ks) (sym like.cumuls) stands.cumuls);
+      cumuls = subst (λ (m : Model). AreAllKept m tours.lists later.cumuls) same
+          (subst (λ ks. AreAllKept before.model tours.lists ks) (sym like.cumuls) stands.cumuls);
     }

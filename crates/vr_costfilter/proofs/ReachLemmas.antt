@@ -1,5 +1,6 @@
 -- From where to where vehicles reach.
-use Rattle.std.proofs.Common.{◌≡◌, ◌∙◌, ◌<◌, ◌⊎◌, ℕ, Bool, true, false, true≢false, cond, not, List, [], ◌∷◌, length, map, Option, Some, None, refl, ap, sym, subst, inl, inr, arith}
+use Rattle.std.proofs.Common.{◌≡◌, ◌∙◌, ◌<◌, ◌⊎◌, ℕ, Bool, true, false, true≢false, cond, not, List, [], ◌∷◌, length, map, Option, Some, None, refl, ap, sym}
+use Rattle.std.proofs.Common.{subst, inl, inr, arith}
 use Rattle.std.specs.Prelude.{int_lt, ℤ, ◌≤ℤ◌, filter, fold, MatchOption}
 use Rattle.std.specs.Int.{int_max, int_min}
 use Rattle.std.proofs.lemmas.Int.{ints, int_max_is, int_min_is}
@@ -39,12 +40,16 @@ max-is : (x y : ℤ) → (int_max x y ≡ x) ⊎ (int_max x y ≡ y)
 max-is x y = either (int_lt y x) x y
 
 -- the first entries of other vehicles tell it
-pub extent-but-is : (model : Model) (d : ℕ) (lists : List (List ℕ)) (orders : SortedEnds) → AreOrders model d lists orders → (vehicles : List ℕ) → IsReach model d lists (λ v. not (names vehicles v)) (extent_but vehicles orders)
+pub extent-but-is : (model : Model) (d : ℕ) (lists : List (List ℕ)) (orders : SortedEnds) → AreOrders model d lists orders
+    → (vehicles : List ℕ) → IsReach model d lists (λ v. not (names vehicles v)) (extent_but vehicles orders)
 extent-but-is model d lists orders are vehicles = go (first_but vehicles orders.starts) refl (first_but vehicles orders.ends) refl
   where
-    go : (s : Option ℤ) → first_but vehicles orders.starts ≡ s → (l : Option ℤ) → first_but vehicles orders.ends ≡ l → IsReach model d lists (λ v. not (names vehicles v)) (extent_of s l)
-    go None s l e = λ v away. number-not (start_with model d) lists v (none-told (number_if_used (start_with model d) lists) orders.starts are.starts vehicles s v (is-not (names vehicles v) away))
-    go (Some x) s None e = λ v away. number-not (left_with model d) lists v (none-told (number_if_used (left_with model d) lists) orders.ends are.ends vehicles e v (is-not (names vehicles v) away))
+    go : (s : Option ℤ) → first_but vehicles orders.starts ≡ s → (l : Option ℤ)
+        → first_but vehicles orders.ends ≡ l → IsReach model d lists (λ v. not (names vehicles v)) (extent_of s l)
+    go None s l e = λ v away. number-not (start_with model d) lists v
+        (none-told (number_if_used (start_with model d) lists) orders.starts are.starts vehicles s v (is-not (names vehicles v) away))
+    go (Some x) s None e = λ v away. number-not (left_with model d) lists v
+        (none-told (number_if_used (left_with model d) lists) orders.ends are.ends vehicles e v (is-not (names vehicles v) away))
     go (Some x) s (Some y) e =
         let a = first-told (number_if_used (start_with model d) lists) orders.starts are.starts vehicles x s in
         let b = first-told (number_if_used (left_with model d) lists) orders.ends are.ends vehicles y e in
@@ -52,13 +57,16 @@ extent-but-is model d lists orders are vehicles = go (first_but vehicles orders.
         let q = number-is (left_with model d) lists b.0.0 y b.0.2 in
         record {
           starts = λ v away used. a.1 v (start_with model d v (route lists v)) (is-not (names vehicles v) away) (number-some (start_with model d) lists v used);
-          ends = λ v away used. (let l = b.1 v (left_with model d v (route lists v)) (is-not (names vehicles v) away) (number-some (left_with model d) lists v used) in omega (arith, ints, l));
+          ends = λ v away used.
+              (let l = b.1 v (left_with model d v (route lists v)) (is-not (names vehicles v) away) (number-some (left_with model d) lists v used) in
+              omega (arith, ints, l));
           first = (a.0.0, ap not a.0.1, p.0, p.1);
           last = (b.0.0, ap not b.0.1, q.0, omega (arith, ints, q.1));
         }
 
 -- the same of other lists, where those of these vehicles are the same
-pub reach-same : (model : Model) (d : ℕ) (lists later : List (List ℕ)) (some : ℕ → Bool) → ((v : ℕ) → some v ≡ true → route later v ≡ route lists v) → (extent : Option Extent) → IsReach model d lists some extent → IsReach model d later some extent
+pub reach-same : (model : Model) (d : ℕ) (lists later : List (List ℕ)) (some : ℕ → Bool) → ((v : ℕ) → some v ≡ true → route later v ≡ route lists v)
+    → (extent : Option Extent) → IsReach model d lists some extent → IsReach model d later some extent
 reach-same model d lists later some same None h = λ v in_it. ap is_empty (same v in_it) ∙ h v in_it
 reach-same model d lists later some same (Some e) h = record {
   starts = λ v in_it used. subst (λ l. e.start ≤ℤ start_with model d v l) (sym (same v in_it)) (h.starts v in_it (ap is_empty (sym (same v in_it)) ∙ used));
@@ -68,9 +76,12 @@ reach-same model d lists later some same (Some e) h = record {
 }
 
 -- one vehicle more
-module _ (model : Model) (d : ℕ) (lists : List (List ℕ)) (some more : ℕ → Bool) (v : ℕ) (grows : (u : ℕ) → some u ≡ true → more u ≡ true) (in_it : more v ≡ true) (only : (u : ℕ) → more u ≡ true → (u ≡ v) ⊎ (some u ≡ true)) where
-  pub reach-more : (extent : Option Extent) → IsReach model d lists some extent → (timing : Option Timing) → IsTimedIfUsed model d v (route lists v) timing → IsReach model d lists more (beside extent timing)
-  reach-more None h None unused = λ u is. elim (only u is) [ inl same ↦ subst (λ w. is_empty (route lists w) ≡ true) (sym same) unused | inr before ↦ h u before ]
+module _ (model : Model) (d : ℕ) (lists : List (List ℕ)) (some more : ℕ → Bool) (v : ℕ) (grows : (u : ℕ) → some u ≡ true → more u ≡ true)
+    (in_it : more v ≡ true) (only : (u : ℕ) → more u ≡ true → (u ≡ v) ⊎ (some u ≡ true)) where
+  pub reach-more : (extent : Option Extent) → IsReach model d lists some extent → (timing : Option Timing)
+      → IsTimedIfUsed model d v (route lists v) timing → IsReach model d lists more (beside extent timing)
+  reach-more None h None unused =
+      λ u is. elim (only u is) [ inl same ↦ subst (λ w. is_empty (route lists w) ≡ true) (sym same) unused | inr before ↦ h u before ]
   reach-more None h (Some t) is = record {
     starts = λ u now used. elim (only u now) [
       | inl same ↦ subst (λ w. t.start ≤ℤ start_with model d w (route lists w)) (sym same) (omega (arith, ints, is.is_timing.start))
@@ -97,11 +108,13 @@ module _ (model : Model) (d : ℕ) (lists : List (List ℕ)) (some more : ℕ �
   }
   reach-more (Some e) h (Some t) is = record {
     starts = λ u now used. elim (only u now) [
-      | inl same ↦ subst (λ w. int_min e.start t.start ≤ℤ start_with model d w (route lists w)) (sym same) (let m = int_min_is e.start t.start in omega (arith, ints, m, is.is_timing.start))
+      | inl same ↦ subst (λ w. int_min e.start t.start ≤ℤ start_with model d w (route lists w))
+          (sym same) (let m = int_min_is e.start t.start in omega (arith, ints, m, is.is_timing.start))
       | inr before ↦ (let m = int_min_is e.start t.start in let l = h.starts u before used in omega (arith, ints, m, l))
     ];
     ends = λ u now used. elim (only u now) [
-      | inl same ↦ subst (λ w. last_with model d w (route lists w) ≤ℤ int_max e.last t.last) (sym same) (let m = int_max_is e.last t.last in omega (arith, ints, m, is.is_timing.last))
+      | inl same ↦ subst (λ w. last_with model d w (route lists w) ≤ℤ int_max e.last t.last)
+          (sym same) (let m = int_max_is e.last t.last in omega (arith, ints, m, is.is_timing.last))
       | inr before ↦ (let m = int_max_is e.last t.last in let l = h.ends u before used in omega (arith, ints, m, l))
     ];
     first = elim (min-is e.start t.start) [
@@ -118,7 +131,11 @@ module _ (model : Model) (d : ℕ) (lists : List (List ℕ)) (some more : ℕ �
 
 fold-max-in : (f : ℕ → ℤ) (x : ℤ) (vs : List ℕ) (v : ℕ) → In vs v → f v ≤ℤ fold int_max x (map f vs)
 fold-max-in f x [] v h = absurd h
-fold-max-in f x (w ∷ ws) v (inl e) = let i = fold-max_least (int_max x (f w)) (map f ws) in let m = int_max_is x (f w) in let s : f v ≡ f w = ap f e in omega (arith, ints, i, m, s)
+fold-max-in f x (w ∷ ws) v (inl e) =
+    let i = fold-max_least (int_max x (f w)) (map f ws) in
+    let m = int_max_is x (f w) in
+    let s : f v ≡ f w = ap f e in
+    omega (arith, ints, i, m, s)
 fold-max-in f x (w ∷ ws) v (inr h) = fold-max-in f (int_max x (f w)) ws v h
 
 pub greatest-in : (f : ℕ → ℤ) (vs : List ℕ) (v : ℕ) → In vs v → f v ≤ℤ greatest (map f vs)
@@ -128,7 +145,11 @@ greatest-in f (w ∷ ws) v (inr h) = fold-max-in f (f w) ws v h
 
 fold-min-in : (f : ℕ → ℤ) (x : ℤ) (vs : List ℕ) (v : ℕ) → In vs v → fold int_min x (map f vs) ≤ℤ f v
 fold-min-in f x [] v h = absurd h
-fold-min-in f x (w ∷ ws) v (inl e) = let i = fold-min_most (int_min x (f w)) (map f ws) in let m = int_min_is x (f w) in let s : f v ≡ f w = ap f e in omega (arith, ints, i, m, s)
+fold-min-in f x (w ∷ ws) v (inl e) =
+    let i = fold-min_most (int_min x (f w)) (map f ws) in
+    let m = int_min_is x (f w) in
+    let s : f v ≡ f w = ap f e in
+    omega (arith, ints, i, m, s)
 fold-min-in f x (w ∷ ws) v (inr h) = fold-min-in f (int_min x (f w)) ws v h
 
 pub least-in : (f : ℕ → ℤ) (vs : List ℕ) (v : ℕ) → In vs v → least (map f vs) ≤ℤ f v
@@ -138,11 +159,13 @@ least-in f (w ∷ ws) v (inr h) = fold-min-in f (f w) ws v h
 
 fold-max-up : (f : ℕ → ℤ) (x y : ℤ) (vs : List ℕ) → y ≤ℤ x → ((v : ℕ) → In vs v → f v ≤ℤ x) → fold int_max y (map f vs) ≤ℤ x
 fold-max-up f x y [] here h = here
-fold-max-up f x y (w ∷ ws) here h = fold-max-up f x (int_max y (f w)) ws (let m = int_max_is y (f w) in let l = h w (inl refl) in omega (arith, ints, m, l, here)) (λ v i. h v (inr i))
+fold-max-up f x y (w ∷ ws) here h =
+    fold-max-up f x (int_max y (f w)) ws (let m = int_max_is y (f w) in let l = h w (inl refl) in omega (arith, ints, m, l, here)) (λ v i. h v (inr i))
 
 fold-min-down : (f : ℕ → ℤ) (x y : ℤ) (vs : List ℕ) → x ≤ℤ y → ((v : ℕ) → In vs v → x ≤ℤ f v) → x ≤ℤ fold int_min y (map f vs)
 fold-min-down f x y [] here h = here
-fold-min-down f x y (w ∷ ws) here h = fold-min-down f x (int_min y (f w)) ws (let m = int_min_is y (f w) in let l = h w (inl refl) in omega (arith, ints, m, l, here)) (λ v i. h v (inr i))
+fold-min-down f x y (w ∷ ws) here h =
+    fold-min-down f x (int_min y (f w)) ws (let m = int_min_is y (f w) in let l = h w (inl refl) in omega (arith, ints, m, l, here)) (λ v i. h v (inr i))
 
 -- a number of one of them that is no less than each is the greatest
 greatest-is : (f : ℕ → ℤ) (x : ℤ) (vs : List ℕ) (v : ℕ) → In vs v → f v ≡ x → ((v : ℕ) → In vs v → f v ≤ℤ x) → x ≡ greatest (map f vs)
@@ -171,7 +194,8 @@ module _ (model : Model) (d : ℕ) (lists : List (List ℕ)) where
 
   none-used : (vs : List ℕ) → ((v : ℕ) → is_empty (route lists v) ≡ true) → filter (λ v. not (is_empty (route lists v))) vs ≡ []
   none-used [] h = refl
-  none-used (v ∷ vs) h = ap (λ b. cond (not b) (v ∷ filter (λ v. not (is_empty (route lists v))) vs) (filter (λ v. not (is_empty (route lists v))) vs)) (h v) ∙ none-used vs h
+  none-used (v ∷ vs) h =
+      ap (λ b. cond (not b) (v ∷ filter (λ v. not (is_empty (route lists v))) vs) (filter (λ v. not (is_empty (route lists v))) vs)) (h v) ∙ none-used vs h
 
   among : (v : ℕ) → is_empty (route lists v) ≡ false → In (used_below lists (length lists)) v
   among v used = to_filter (λ v. not (is_empty (route lists v))) (below (length lists)) v (to_below (length lists) v (used-known lists v used)) (ap not used)
@@ -180,10 +204,13 @@ module _ (model : Model) (d : ℕ) (lists : List (List ℕ)) where
   used-is v i = is-not (is_empty (route lists v)) (of_filter (λ v. not (is_empty (route lists v))) (below (length lists)) v i).1
 
   -- how far all vehicles reach is the extent of the used ones
-  pub reach-all : (extent : Option Extent) → IsReach model d lists (λ v. true) extent → MatchOption extent (used_below lists (length lists) ≡ []) (IsExtent model lists d (used_below lists (length lists)))
+  pub reach-all : (extent : Option Extent) → IsReach model d lists (λ v. true) extent
+      → MatchOption extent (used_below lists (length lists) ≡ []) (IsExtent model lists d (used_below lists (length lists)))
   reach-all None h = none-used (below (length lists)) (λ v. h v refl)
   reach-all (Some e) h = record {
     some = some-in (used_below lists (length lists)) h.first.0 (among h.first.0 h.first.2);
-    start = least-is (λ v. start_with model d v (route lists v)) e.start (used_below lists (length lists)) h.first.0 (among h.first.0 h.first.2) h.first.3 (λ v i. h.starts v refl (used-is v i));
-    last = greatest-is (λ v. last_with model d v (route lists v)) e.last (used_below lists (length lists)) h.last.0 (among h.last.0 h.last.2) h.last.3 (λ v i. h.ends v refl (used-is v i));
+    start = least-is (λ v. start_with model d v (route lists v)) e.start (used_below lists (length lists))
+        h.first.0 (among h.first.0 h.first.2) h.first.3 (λ v i. h.starts v refl (used-is v i));
+    last = greatest-is (λ v. last_with model d v (route lists v)) e.last (used_below lists (length lists))
+        h.last.0 (among h.last.0 h.last.2) h.last.3 (λ v i. h.ends v refl (used-is v i));
   }

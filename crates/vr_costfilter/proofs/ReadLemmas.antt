@@ -38,11 +38,15 @@ read-floor f t s hf ht hs =
     ap (λ (z : ℤ). to_z w64 (of_z w64 (z -ℤ to_z w64 (of_z w64 s)))) (inner ∙ sym again) ∙ read-less (f -ℤ t) s (less-arc f t hf ht) hs
 
 -- the greater of such a floor and a cumul is near
-pub floor-around : (f t s lo x m : ℤ) → x ≡ m → IsAround 100000000000 f → IsAround 100000000000 t → IsAround 100000000000 s → IsAround 100000000000 lo → m ≡ int_max ((f -ℤ t) -ℤ s) lo → IsAround 500000000000 x
+pub floor-around : (f t s lo x m : ℤ) → x ≡ m → IsAround 100000000000 f → IsAround 100000000000 t
+    → IsAround 100000000000 s → IsAround 100000000000 lo → m ≡ int_max ((f -ℤ t) -ℤ s) lo → IsAround 500000000000 x
 floor-around f t s lo x m same hf ht hs hlo is =
     let d = less-around (f -ℤ t) s (less-arc f t hf ht) hs in
     let i = int_max_is ((f -ℤ t) -ℤ s) lo in
-    record { low = omega (arith, ints, same, is, i, d.low, d.high, hlo.low, hlo.high); high = omega (arith, ints, same, is, i, d.low, d.high, hlo.low, hlo.high) }
+    record {
+      low = omega (arith, ints, same, is, i, d.low, d.high, hlo.low, hlo.high);
+      high = omega (arith, ints, same, is, i, d.low, d.high, hlo.low, hlo.high);
+    }
 
 -- what is read of a floor
 pub record IsFloorRead (f t s lo it : ℤ) : Type 0 where
@@ -50,7 +54,9 @@ pub record IsFloorRead (f t s lo it : ℤ) : Type 0 where
   pub read : to_z w64 (of_z w64 it) ≡ it
 
 pub floor-read : (f t s lo it : ℤ) → IsIn (pos 0) horizon f → IsAround 100000000000 t → IsIn (pos 0) horizon s → IsIn (pos 0) horizon lo
-    → it ≡ int_max (to_z w64 (of_z w64 (to_z w64 (of_z w64 (to_z w64 (of_z w64 f) -ℤ to_z w64 (of_z w64 t))) -ℤ to_z w64 (of_z w64 s)))) (to_z w64 (of_z w64 lo)) → IsFloorRead f t s lo it
+    → it
+    ≡ int_max (to_z w64 (of_z w64 (to_z w64 (of_z w64 (to_z w64 (of_z w64 f) -ℤ to_z w64 (of_z w64 t))) -ℤ to_z w64 (of_z w64 s)))) (to_z w64 (of_z w64 lo))
+    → IsFloorRead f t s lo it
 floor-read f t s lo it f_in near_t s_in lo_in told =
     let near_f = cumul-around f f_in in
     let near_s = cumul-around s s_in in

@@ -22,13 +22,15 @@ use Rattle.vr_costfilter.proofs.WayLemmas.{visit-ends, way-is}
 -- ---- the numbers of what is left
 
 pub rest-is : (node other : ℕ) (transits r least_end f latest_cumul l : ℤ) → node ≡ other → transits ≡ r → least_end ≡ f → latest_cumul ≡ l
-    → (let w : Rest = record { at = node; transits = transits; least_end = least_end; latest_cumul = latest_cumul } in w) ≡ (let w : Rest = record { at = other; transits = r; least_end = f; latest_cumul = l } in w)
+    → (let w : Rest = record { at = node; transits = transits; least_end = least_end; latest_cumul = latest_cumul } in w)
+    ≡ (let w : Rest = record { at = other; transits = r; least_end = f; latest_cumul = l } in w)
 rest-is node other transits r least_end f latest_cumul l at a b c =
     ap₂ (λ (n : ℕ) (x : ℤ). (let w : Rest = record { at = n; transits = x; least_end = least_end; latest_cumul = latest_cumul } in w)) at a
     ∙ ap₂ (λ (x y : ℤ). (let w : Rest = record { at = other; transits = r; least_end = x; latest_cumul = y } in w)) b c
 
 -- what is read of what is left, r being the transit to it as it was read
-module _ {model : Model} {rest : Rest} {t r : ℤ} (h : IsTightRestOf model 1000 rest) (same : r ≡ t) (least : neg_ℤ (pos (2 ^ 31)) ≤ℤ r) (greatest : r ≤ℤ pos (2 ^ 31)) where
+module _ {model : Model} {rest : Rest} {t r : ℤ} (h : IsTightRestOf model 1000 rest)
+    (same : r ≡ t) (least : neg_ℤ (pos (2 ^ 31)) ≤ℤ r) (greatest : r ≤ℤ pos (2 ^ 31)) where
   left-read : to_z w64 (of_z w64 (to_z w64 (of_z w64 r) +ℤ to_z w64 (of_z w64 rest.transits))) ≡ t +ℤ rest.transits
   left-read = omega (arith, ints, same, least, greatest, h.low, h.high)
 
@@ -37,7 +39,8 @@ module _ {model : Model} {rest : Rest} {t r : ℤ} (h : IsTightRestOf model 1000
 
   -- from a stop on that allows a run
   module _ {allowed : Run} (ends : HasCumulEnds allowed) where
-    from-read : to_z w64 (of_z w64 (to_z w64 (of_z w64 allowed.lo) +ℤ to_z w64 (of_z w64 (to_z w64 (of_z w64 r) +ℤ to_z w64 (of_z w64 rest.transits))))) ≡ allowed.lo +ℤ (t +ℤ rest.transits)
+    from-read : to_z w64 (of_z w64 (to_z w64 (of_z w64 allowed.lo) +ℤ to_z w64 (of_z w64 (to_z w64 (of_z w64 r) +ℤ to_z w64 (of_z w64 rest.transits)))))
+        ≡ allowed.lo +ℤ (t +ℤ rest.transits)
     from-read = omega (arith, ints, left-read, same, least, greatest, h.low, h.high, ends.lo.at_least, ends.lo.at_most)
 
     pub from-fits : FitsSigned w64 (to_z w64 (of_z w64 allowed.lo) +ℤ to_z w64 (of_z w64 (to_z w64 (of_z w64 r) +ℤ to_z w64 (of_z w64 rest.transits))))
@@ -60,9 +63,16 @@ module _ {model : Model} {rest : Rest} {t r : ℤ} (h : IsTightRestOf model 1000
         omega (arith, ints, is, m, same, least, greatest, h.soonest, h.latest, ends.hi.at_least, ends.hi.at_most)
 
     pub before-read : (node : ℕ) (least_end latest_cumul : ℤ)
-        → least_end ≡ int_max (to_z w64 (of_z w64 (to_z w64 (of_z w64 allowed.lo) +ℤ to_z w64 (of_z w64 (to_z w64 (of_z w64 r) +ℤ to_z w64 (of_z w64 rest.transits)))))) (to_z w64 (of_z w64 rest.least_end))
+        → least_end
+        ≡ int_max (to_z w64 (of_z w64 (to_z w64 (of_z w64 allowed.lo) +ℤ to_z w64 (of_z w64 (to_z w64 (of_z w64 r) +ℤ to_z w64 (of_z w64 rest.transits))))))
+        (to_z w64 (of_z w64 rest.least_end))
         → latest_cumul ≡ int_min (to_z w64 (of_z w64 allowed.hi)) (to_z w64 (of_z w64 (to_z w64 (of_z w64 rest.latest_cumul) -ℤ to_z w64 (of_z w64 r))))
-        → (let w : Rest = record { at = node; transits = to_z w64 (of_z w64 (to_z w64 (of_z w64 r) +ℤ to_z w64 (of_z w64 rest.transits))); least_end = to_z w64 (of_z w64 least_end); latest_cumul = to_z w64 (of_z w64 latest_cumul) } in w) ≡ rest_by t node allowed rest
+        → (let w : Rest = record {
+          at = node;
+          transits = to_z w64 (of_z w64 (to_z w64 (of_z w64 r) +ℤ to_z w64 (of_z w64 rest.transits)));
+          least_end = to_z w64 (of_z w64 least_end);
+          latest_cumul = to_z w64 (of_z w64 latest_cumul);
+        } in w) ≡ rest_by t node allowed rest
     before-read node least_end latest_cumul floor_is ceiling_is =
         let soon = floor_is ∙ ap₂ (λ (x y : ℤ). int_max x y) from-read floor-known in
         let late = ceiling_is ∙ ap₂ (λ (x y : ℤ). int_min x y) (read-cumul allowed.hi ends.hi) under-read in
@@ -70,10 +80,13 @@ module _ {model : Model} {rest : Rest} {t r : ℤ} (h : IsTightRestOf model 1000
 
   -- through it behind a way
   module _ {way : Way} (w : IsTightWayOf model 9000 way) where
-    sum-read : to_z w64 (of_z w64 (to_z w64 (of_z w64 way.time) +ℤ to_z w64 (of_z w64 (to_z w64 (of_z w64 r) +ℤ to_z w64 (of_z w64 rest.transits))))) ≡ way.time +ℤ (t +ℤ rest.transits)
+    sum-read : to_z w64 (of_z w64 (to_z w64 (of_z w64 way.time) +ℤ to_z w64 (of_z w64 (to_z w64 (of_z w64 r) +ℤ to_z w64 (of_z w64 rest.transits)))))
+        ≡ way.time +ℤ (t +ℤ rest.transits)
     sum-read = omega (arith, ints, left-read, same, least, greatest, h.low, h.high, w.early, w.late)
 
-    transits-read : to_z w64 (of_z w64 (to_z w64 (of_z w64 way.transits) +ℤ to_z w64 (of_z w64 (to_z w64 (of_z w64 r) +ℤ to_z w64 (of_z w64 rest.transits))))) ≡ way.transits +ℤ (t +ℤ rest.transits)
+    transits-read :
+        to_z w64 (of_z w64 (to_z w64 (of_z w64 way.transits) +ℤ to_z w64 (of_z w64 (to_z w64 (of_z w64 r) +ℤ to_z w64 (of_z w64 rest.transits)))))
+        ≡ way.transits +ℤ (t +ℤ rest.transits)
     transits-read = omega (arith, ints, left-read, same, least, greatest, h.low, h.high, w.low, w.high)
 
     pub transits-fit : FitsSigned w64 (to_z w64 (of_z w64 way.transits) +ℤ to_z w64 (of_z w64 (to_z w64 (of_z w64 r) +ℤ to_z w64 (of_z w64 rest.transits))))
@@ -82,7 +95,9 @@ module _ {model : Model} {rest : Rest} {t r : ℤ} (h : IsTightRestOf model 1000
     gone-read : to_z w64 (of_z w64 (to_z w64 (of_z w64 way.transits) +ℤ to_z w64 (of_z w64 r))) ≡ way.transits +ℤ t
     gone-read = omega (arith, ints, same, least, greatest, w.low, w.high)
 
-    start-read : to_z w64 (of_z w64 (to_z w64 (of_z w64 rest.latest_cumul) -ℤ to_z w64 (of_z w64 (to_z w64 (of_z w64 way.transits) +ℤ to_z w64 (of_z w64 r))))) ≡ rest.latest_cumul -ℤ (way.transits +ℤ t)
+    start-read :
+        to_z w64 (of_z w64 (to_z w64 (of_z w64 rest.latest_cumul) -ℤ to_z w64 (of_z w64 (to_z w64 (of_z w64 way.transits) +ℤ to_z w64 (of_z w64 r)))))
+        ≡ rest.latest_cumul -ℤ (way.transits +ℤ t)
     start-read = omega (arith, ints, gone-read, same, least, greatest, w.low, w.high, h.soonest, h.latest)
 
     pub start-fits : FitsSigned w64 (to_z w64 (of_z w64 rest.latest_cumul) -ℤ to_z w64 (of_z w64 (to_z w64 (of_z w64 way.transits) +ℤ to_z w64 (of_z w64 r))))
@@ -105,9 +120,18 @@ module _ {model : Model} {rest : Rest} {t r : ℤ} (h : IsTightRestOf model 1000
         omega (arith, ints, is, m, same, least, greatest, w.low, w.high, w.soonest, w.latest, h.soonest, h.latest)
 
     pub through-read : (node end : ℕ) (time latest : ℤ) → node ≡ end
-        → time ≡ int_max (to_z w64 (of_z w64 (to_z w64 (of_z w64 way.time) +ℤ to_z w64 (of_z w64 (to_z w64 (of_z w64 r) +ℤ to_z w64 (of_z w64 rest.transits)))))) (to_z w64 (of_z w64 rest.least_end))
-        → latest ≡ int_min (to_z w64 (of_z w64 way.latest)) (to_z w64 (of_z w64 (to_z w64 (of_z w64 rest.latest_cumul) -ℤ to_z w64 (of_z w64 (to_z w64 (of_z w64 way.transits) +ℤ to_z w64 (of_z w64 r))))))
-        → (let w : Way = record { at = node; time = to_z w64 (of_z w64 time); transits = to_z w64 (of_z w64 (to_z w64 (of_z w64 way.transits) +ℤ to_z w64 (of_z w64 (to_z w64 (of_z w64 r) +ℤ to_z w64 (of_z w64 rest.transits))))); latest = to_z w64 (of_z w64 latest) } in w) ≡ through_by t end rest way
+        → time
+        ≡ int_max (to_z w64 (of_z w64 (to_z w64 (of_z w64 way.time) +ℤ to_z w64 (of_z w64 (to_z w64 (of_z w64 r) +ℤ to_z w64 (of_z w64 rest.transits))))))
+        (to_z w64 (of_z w64 rest.least_end))
+        → latest ≡ int_min (to_z w64 (of_z w64 way.latest))
+        (to_z w64 (of_z w64 (to_z w64 (of_z w64 rest.latest_cumul) -ℤ to_z w64 (of_z w64 (to_z w64 (of_z w64 way.transits) +ℤ to_z w64 (of_z w64 r))))))
+        → (let w : Way = record {
+          at = node;
+          time = to_z w64 (of_z w64 time);
+          transits =
+              to_z w64 (of_z w64 (to_z w64 (of_z w64 way.transits) +ℤ to_z w64 (of_z w64 (to_z w64 (of_z w64 r) +ℤ to_z w64 (of_z w64 rest.transits)))));
+          latest = to_z w64 (of_z w64 latest);
+        } in w) ≡ through_by t end rest way
     through-read node end time latest at time_is latest_is =
         let soon = time_is ∙ ap₂ (λ (x y : ℤ). int_max x y) sum-read floor-known in
         let late = latest_is ∙ ap₂ (λ (x y : ℤ). int_min x y) latest-is start-read in
@@ -131,7 +155,8 @@ module _ (model : Model) (well : IsWellFormed model) (d v : ℕ) (dimension : d 
 
   module _ (runs : Runs) (visits : AreVisitRuns model d v runs.visits) where
     -- what is left of one arc more
-    pub before-rest : (n : ℕ) (rest : Rest) (node : ℕ) → IsTightRestOf model n rest → IsTrue (is_visit model node) → IsTightRestOf model (n + 1) (rest_before model d v runs node rest)
+    pub before-rest : (n : ℕ) (rest : Rest) (node : ℕ) → IsTightRestOf model n rest
+        → IsTrue (is_visit model node) → IsTightRestOf model (n + 1) (rest_before model d v runs node rest)
     before-rest n rest node h visit =
         let low = visit_below model node visit in
         let allowed = slice_index_or runs.visits node no_run in
@@ -150,14 +175,17 @@ module _ (model : Model) (well : IsWellFormed model) (d v : ℕ) (dimension : d 
         }
 
     -- what is left from visits on
-    pub rest-range : HasCumulEnds runs.finish → (nodes : List ℕ) → All (λ node. IsTrue (is_visit model node)) nodes → IsTightRestOf model (length nodes) (tight_rest_of model d v runs nodes)
+    pub rest-range : HasCumulEnds runs.finish → (nodes : List ℕ) → All (λ node. IsTrue (is_visit model node)) nodes
+        → IsTightRestOf model (length nodes) (tight_rest_of model d v runs nodes)
     rest-range finish [] all = end-rest runs finish
     rest-range finish (x ∷ xs) all =
         let rest = rest-range finish xs (λ k d low. all (suc k) d (omega (arith, low))) in
-        subst (λ n. IsTightRestOf model n (tight_rest_of model d v runs (x ∷ xs))) (let e : length xs + 1 ≡ suc (length xs) = omega arith in e) (before-rest (length xs) (tight_rest_of model d v runs xs) x rest (all 0 0 (omega arith)))
+        subst (λ n. IsTightRestOf model n (tight_rest_of model d v runs (x ∷ xs))) (let e : length xs + 1 ≡ suc (length xs) = omega arith in e)
+        (before-rest (length xs) (tight_rest_of model d v runs xs) x rest (all 0 0 (omega arith)))
 
   -- a way through what is left
-  pub end-way : (n m : ℕ) (way : Way) (rest : Rest) → IsTightWayOf model n way → IsTightRestOf model m rest → IsTightWayOf model (n + 1 + m) (way_through model d v way rest)
+  pub end-way : (n m : ℕ) (way : Way) (rest : Rest) → IsTightWayOf model n way
+      → IsTightRestOf model m rest → IsTightWayOf model (n + 1 + m) (way_through model d v way rest)
   end-way n m way rest h r =
       let t = transit_in_range model well d v dimension vehicle way.at rest.at h.at r.at in
       let x = int_max_is (way.time +ℤ (transit model d v way.at rest.at +ℤ rest.transits)) rest.least_end in
@@ -194,7 +222,8 @@ greatest-three time l f t r =
 
 module _ (model : Model) (d v : ℕ) (runs : Runs) where
   -- through a visit and what is left behind it
-  through-visit : (way : Way) (x : ℕ) (rest : Rest) → way_through model d v way (rest_before model d v runs x rest) ≡ way_through model d v (way_to_visit model d v runs way x) rest
+  through-visit : (way : Way) (x : ℕ) (rest : Rest)
+      → way_through model d v way (rest_before model d v runs x rest) ≡ way_through model d v (way_to_visit model d v runs way x) rest
   through-visit way x rest =
       let t = transit model d v way.at x in
       let u = transit model d v x rest.at in
@@ -207,18 +236,26 @@ module _ (model : Model) (d v : ℕ) (runs : Runs) where
   through-end way =
       let t = transit model d v way.at (vehicle_at model v).end in
       let left : t +ℤ pos 0 ≡ t = omega (arith, ints) in
-      ap (λ (x : ℤ). (let w : Way = record { at = (vehicle_at model v).end; time = int_max (way.time +ℤ x) runs.finish.lo; transits = way.transits +ℤ x; latest = int_min way.latest (runs.finish.hi -ℤ (way.transits +ℤ t)) } in w)) left
+      ap (λ (x : ℤ). (let w : Way = record {
+        at = (vehicle_at model v).end;
+        time = int_max (way.time +ℤ x) runs.finish.lo;
+        transits = way.transits +ℤ x;
+        latest = int_min way.latest (runs.finish.hi -ℤ (way.transits +ℤ t));
+      } in w)) left
 
   -- what is left from visits on is the way along them to the end
-  pub through-rest : (nodes : List ℕ) (way : Way) → way_through model d v way (tight_rest_of model d v runs nodes) ≡ way_on model d v (tight_way_along model d v runs way nodes) (vehicle_at model v).end runs.finish
+  pub through-rest : (nodes : List ℕ) (way : Way) → way_through model d v way (tight_rest_of model d v runs nodes)
+      ≡ way_on model d v (tight_way_along model d v runs way nodes) (vehicle_at model v).end runs.finish
   through-rest [] way = through-end way
   through-rest (x ∷ xs) way = through-visit way x (tight_rest_of model d v runs xs) ∙ through-rest xs (way_to_visit model d v runs way x)
 
   -- the whole way is a way along the front of a list, on along others, and through what is left
   pub whole-parts : (front middle behind list : List ℕ) → list ≡ front ++ (middle ++ behind)
-      → way_through model d v (tight_way_along model d v runs (tight_way_along model d v runs (way_out model v runs) front) middle) (tight_rest_of model d v runs behind) ≡ whole_tight_way model d v runs list
+      → way_through model d v (tight_way_along model d v runs (tight_way_along model d v runs (way_out model v runs) front) middle)
+      (tight_rest_of model d v runs behind) ≡ whole_tight_way model d v runs list
   whole-parts front middle behind list is =
       through-rest behind (tight_way_along model d v runs (tight_way_along model d v runs (way_out model v runs) front) middle)
       ∙ sym (ap (whole_tight_way model d v runs) is
       ∙ ap (λ (w : Way). way_on model d v w (vehicle_at model v).end runs.finish)
-      (fold-append (way_to_visit model d v runs) (way_out model v runs) front (middle ++ behind) ∙ fold-append (way_to_visit model d v runs) (tight_way_along model d v runs (way_out model v runs) front) middle behind))
+      (fold-append (way_to_visit model d v runs) (way_out model v runs) front (middle ++ behind)
+      ∙ fold-append (way_to_visit model d v runs) (tight_way_along model d v runs (way_out model v runs) front) middle behind))

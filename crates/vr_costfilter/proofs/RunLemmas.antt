@@ -1,5 +1,6 @@
 -- The runs of stops, and what is gone by them, are the same by whatever table they were looked up.
-use Rattle.std.proofs.Common.{◌≡◌, ◌∙◌, ℕ, zero, suc, ◌+◌, ◌<◌, ◌≤◌, ◌⊎◌, inl, inr, List, [], ◌∷◌, ◌++◌, length, map, refl, sym, ap, ap₂, subst, arith, Option, Some, None}
+use Rattle.std.proofs.Common.{◌≡◌, ◌∙◌, ℕ, zero, suc, ◌+◌, ◌<◌, ◌≤◌, ◌⊎◌, inl, inr, List, [], ◌∷◌, ◌++◌, length, map, refl, sym, ap, ap₂, subst, arith, Option}
+use Rattle.std.proofs.Common.{Some, None}
 use Rattle.std.specs.Prelude.{ℤ, ◌+ℤ◌, ◌-ℤ◌, ◌≤ℤ◌, All, IsTrue, option_map, slice_index_or}
 use Rattle.std.specs.Option.{option_and_then}
 use Rattle.std.proofs.lemmas.Int.{ints, int_max_is}
@@ -34,14 +35,16 @@ map-last : (f : ℕ → Run) (list : List ℕ) (last : Run) → run_at (map f li
 map-last f [] last = refl
 map-last f (x ∷ xs) last = map-last f xs last
 
-pub stop-visit : (runs : Runs) (list : List ℕ) (k : ℕ) → k < length list → run_at (stop_runs runs list) (suc k) ≡ slice_index_or runs.visits (slice_index_or list k 0) no_run
+pub stop-visit : (runs : Runs) (list : List ℕ) (k : ℕ) → k < length list
+    → run_at (stop_runs runs list) (suc k) ≡ slice_index_or runs.visits (slice_index_or list k 0) no_run
 stop-visit runs list k low = map-at (λ node. slice_index_or runs.visits node no_run) list runs.finish k low
 
 pub stop-last : (runs : Runs) (list : List ℕ) → run_at (stop_runs runs list) (suc (length list)) ≡ runs.finish
 stop-last runs list = map-last (λ node. slice_index_or runs.visits node no_run) list runs.finish
 
 -- the line of a list allows them
-pub line-allows : (model : Model) (d v : ℕ) (runs : Runs) → AreRuns model d v runs → (list : List ℕ) → IsTour model list → AllowsRuns model d v runs list (line model d v list)
+pub line-allows : (model : Model) (d v : ℕ) (runs : Runs) → AreRuns model d v runs
+    → (list : List ℕ) → IsTour model list → AllowsRuns model d v runs list (line model d v list)
 line-allows model d v runs are list tour = record {
   arcs = refl;
   slack_max = refl;
@@ -55,16 +58,19 @@ line-allows model d v runs are list tour = record {
     each zero le = record { exact = are.start.exact; ends = are.start.ends }
     each (suc k) le = elim (either k (let n = arcs_of_line model d v list in omega (arith, n, le))) [
       | inl low ↦ (
-          let known : slice_index_or list k 0 < length runs.visits = (let h = place_below model list k 0 tour.visits low in omega (arith, are.visits.long, h)) in
+          let known : slice_index_or list k 0 < length runs.visits =
+          (let h = place_below model list k 0 tour.visits low in omega (arith, are.visits.long, h)) in
           let run : Run = slice_index_or runs.visits (slice_index_or list k 0) no_run in
           let there = visit_allows_run model d v list k runs.visits run no_run are.visits tour low known refl in
           let next : k + 1 ≡ suc k = omega arith in
-          subst (IsAllowedRun (line model d v list) (suc k)) (sym (stop-visit runs list k low)) (subst (λ i. IsAllowedRun (line model d v list) i run) next there))
+          subst (IsAllowedRun (line model d v list) (suc k)) (sym (stop-visit runs list k low))
+          (subst (λ i. IsAllowedRun (line model d v list) i run) next there))
       | inr last ↦ (
           let there = end_allows_run model d v list (length list) runs.finish are.finish refl in
           let next : length list + 1 ≡ suc (length list) = omega arith in
           let end : IsAllowedRun (line model d v list) (suc (length list)) (run_at (stop_runs runs list) (suc (length list))) =
-          subst (IsAllowedRun (line model d v list) (suc (length list))) (sym (stop-last runs list)) (subst (λ i. IsAllowedRun (line model d v list) i runs.finish) next there) in
+          subst (IsAllowedRun (line model d v list) (suc (length list))) (sym (stop-last runs list))
+          (subst (λ i. IsAllowedRun (line model d v list) i runs.finish) next there) in
           subst (λ i. IsAllowedRun (line model d v list) (suc i) (run_at (stop_runs runs list) (suc i))) (sym last) end)
     ]
 
@@ -100,10 +106,12 @@ run-same r q same some =
     ap₂ (λ (x y : ℤ). (let run : Run = record { lo = x; hi = y } in run)) (omega (arith, ints, a, d)) (omega (arith, ints, c, e))
 
 -- a start from which a vehicle sets out allows some cumul
-pub start-some : (model : Model) (d v : ℕ) (runs : Runs) (next : Step) (stage : Stage) → setting_out model d v runs next ≡ Some stage → runs.start.lo ≤ℤ runs.start.hi
+pub start-some : (model : Model) (d v : ℕ) (runs : Runs) (next : Step) (stage : Stage)
+    → setting_out model d v runs next ≡ Some stage → runs.start.lo ≤ℤ runs.start.hi
 start-some model d v runs next stage e = by (stop_floor model d v (vehicle_at model v).start runs.start next) refl e
   where
-    by : (o : Option ℤ) → stop_floor model d v (vehicle_at model v).start runs.start next ≡ o → option_map (stage_at_start model d v) o ≡ Some stage → runs.start.lo ≤ℤ runs.start.hi
+    by : (o : Option ℤ) → stop_floor model d v (vehicle_at model v).start runs.start next ≡ o
+        → option_map (stage_at_start model d v) o ≡ Some stage → runs.start.lo ≤ℤ runs.start.hi
     by None is e = absurd (cc)
     by (Some it) is e =
         let t : ℤ = transit model d v (vehicle_at model v).start next.node in
@@ -113,7 +121,8 @@ start-some model d v runs next stage e = by (stop_floor model d v (vehicle_at mo
         omega (arith, ints, floor.is, floor.most, m)
 
 -- so does an end to which it comes
-pub end-some : (model : Model) (d v : ℕ) (runs : Runs) (o : Option Stage) (stage : Stage) → option_and_then (to_end model d v runs) o ≡ Some stage → runs.finish.lo ≤ℤ runs.finish.hi
+pub end-some : (model : Model) (d v : ℕ) (runs : Runs) (o : Option Stage) (stage : Stage)
+    → option_and_then (to_end model d v runs) o ≡ Some stage → runs.finish.lo ≤ℤ runs.finish.hi
 end-some model d v runs o stage e = option_and_then_some (to_end model d v runs) o stage e (λ before there more.
     let t : ℤ = transit model d v before.at (vehicle_at model v).end in
     let is = gone t (dimension_at model d).slack_max (vehicle_at model v).end runs.finish (row_of (dimension_at model d).ends v) before stage more in
@@ -121,7 +130,8 @@ end-some model d v runs o stage e = option_and_then_some (to_end model d v runs)
     omega (arith, ints, is.earliest.least, is.earliest.most, m))
 
 -- and a visit to which a step leads
-pub step-some : (model : Model) (d v : ℕ) (runs : Runs) (node : ℕ) (next step : Step) → before model d v runs node next ≡ Some step → (slice_index_or runs.visits node no_run).lo ≤ℤ (slice_index_or runs.visits node no_run).hi
+pub step-some : (model : Model) (d v : ℕ) (runs : Runs) (node : ℕ) (next step : Step) → before model d v runs node next ≡ Some step
+    → (slice_index_or runs.visits node no_run).lo ≤ℤ (slice_index_or runs.visits node no_run).hi
 step-some model d v runs node next step e =
     let allowed : Run = slice_index_or runs.visits node no_run in
     let t : ℤ = transit model d v node next.node in
@@ -138,7 +148,8 @@ module _ (model : Model) (d v : ℕ) (a b : Runs) (of_a : AreRuns model d v a) (
   finish-run some = run-same a.finish b.finish (λ x. of_a.finish.exact x ∙ sym (of_b.finish.exact x)) some
 
   -- a visit that allows some cumul
-  pub visit-run : (node : ℕ) → IsTrue (is_visit model node) → (slice_index_or a.visits node no_run).lo ≤ℤ (slice_index_or a.visits node no_run).hi → slice_index_or a.visits node no_run ≡ slice_index_or b.visits node no_run
+  pub visit-run : (node : ℕ) → IsTrue (is_visit model node) → (slice_index_or a.visits node no_run).lo ≤ℤ (slice_index_or a.visits node no_run).hi
+      → slice_index_or a.visits node no_run ≡ slice_index_or b.visits node no_run
   visit-run node visit some =
       let low = visit_below model node visit in
       let p = of_a.visits.each node no_run (omega (arith, low, of_a.visits.long)) visit in
@@ -149,29 +160,35 @@ module _ (model : Model) (d v : ℕ) (a b : Runs) (of_a : AreRuns model d v a) (
   pub step-runs : (steps : List Step) (next : Step) → AreAimed model d v a steps next → All (IsVisitStep model) steps → (k : ℕ) → k < length steps
       → slice_index_or a.visits (slice_index_or steps k next).node no_run ≡ slice_index_or b.visits (slice_index_or steps k next).node no_run
   step-runs steps next aimed known k low =
-      visit-run (slice_index_or steps k next).node (known k next low).visit (step-some model d v a (slice_index_or steps k next).node (slice_index_or steps (suc k) next) (slice_index_or steps k next) (aimed.each k low))
+      visit-run (slice_index_or steps k next).node (known k next low).visit
+      (step-some model d v a (slice_index_or steps k next).node (slice_index_or steps (suc k) next) (slice_index_or steps k next) (aimed.each k low))
 
   pub same-aimed : (steps : List Step) (next : Step) → AreAimed model d v a steps next → All (IsVisitStep model) steps → AreAimed model d v b steps next
   same-aimed steps next aimed known = record {
     each = λ k low.
-        sym (ap (λ r. option_map (λ (floor : ℤ). (let s : Step = record { node = (slice_index_or steps k next).node; floor = floor } in s)) (stop_floor model d v (slice_index_or steps k next).node r (slice_index_or steps (suc k) next)))
+        sym (ap (λ r. option_map (λ (floor : ℤ). (let s : Step = record { node = (slice_index_or steps k next).node; floor = floor } in s))
+        (stop_floor model d v (slice_index_or steps k next).node r (slice_index_or steps (suc k) next)))
         (step-runs steps next aimed known k low)) ∙ aimed.each k low;
   }
 
-  pub same-along : (o : Option Stage) (steps : List Step) (next : Step) → AreAimed model d v a steps next → All (IsVisitStep model) steps → along model d v a o steps ≡ along model d v b o steps
+  pub same-along : (o : Option Stage) (steps : List Step) (next : Step) → AreAimed model d v a steps next
+      → All (IsVisitStep model) steps → along model d v a o steps ≡ along model d v b o steps
   same-along o [] next aimed known = refl
   same-along o (x ∷ xs) next aimed known =
       ap (λ r. along model d v a (more r) xs) (step-runs (x ∷ xs) next aimed known 0 (omega arith))
       ∙ same-along (visit_more model d v b o x) xs next (aimed-rest model d v a x xs next aimed) (λ k e low. known (suc k) e (omega (arith, low)))
     where
       more : Run → Option Stage
-      more r = option_and_then (λ (stage : Stage). go_on (transit model d v stage.at x.node) (dimension_at model d).slack_max x.node (from_floor x.floor r) (row_of (dimension_at model d).nodes x.node) stage) o
+      more r = option_and_then (λ (stage : Stage). go_on (transit model d v stage.at x.node)
+          (dimension_at model d).slack_max x.node (from_floor x.floor r) (row_of (dimension_at model d).nodes x.node) stage) o
 
   pub same-out : a.start ≡ b.start → (next : Step) → setting_out model d v a next ≡ setting_out model d v b next
   same-out same next = ap (λ r. option_map (stage_at_start model d v) (stop_floor model d v (vehicle_at model v).start r next)) same
 
   pub same-end : a.finish ≡ b.finish → (o : Option Stage) → option_and_then (to_end model d v a) o ≡ option_and_then (to_end model d v b) o
-  same-end same o = ap (λ r. option_and_then (λ (stage : Stage). go_on (transit model d v stage.at (vehicle_at model v).end) (dimension_at model d).slack_max (vehicle_at model v).end r (row_of (dimension_at model d).ends v) stage) o) same
+  same-end same o = ap (λ r.
+      option_and_then (λ (stage : Stage). go_on (transit model d v stage.at (vehicle_at model v).end)
+      (dimension_at model d).slack_max (vehicle_at model v).end r (row_of (dimension_at model d).ends v) stage) o) same
 
   pub same-end-step : a.finish ≡ b.finish → end_step model v a ≡ end_step model v b
   same-end-step same = ap (λ (r : Run). (let s : Step = record { node = (vehicle_at model v).end; floor = r.lo } in s)) same

@@ -1,5 +1,6 @@
 -- How far lists reach at least, one list further.
-use Rattle.std.proofs.Common.{◌≡◌, ◌∙◌, ◌<◌, ◌≤◌, ◌+◌, ℕ, zero, suc, Bool, true, List, [], ◌∷◌, false, cond, not, length, map, take, refl, add-one, ap, ap₂, sym, subst, arith, to_z, of_z, w64}
+use Rattle.std.proofs.Common.{◌≡◌, ◌∙◌, ◌<◌, ◌≤◌, ◌+◌, ℕ, zero, suc, Bool, true, List, [], ◌∷◌, false, cond, not, length, map, take, refl, add-one, ap, ap₂}
+use Rattle.std.proofs.Common.{sym, subst, arith, to_z, of_z, w64}
 use Rattle.std.specs.Prelude.{ℤ, pos, neg_ℤ, fold, ◌-ℤ◌, ◌*ℤ◌, ◌≤ℤ◌, ◌==◌, ◌||◌, All, IsTrue}
 use Rattle.std.proofs.lemmas.List.{take_all}
 use Rattle.std.proofs.lemmas.List.Sums.{fold_more, fold-append}
@@ -29,7 +30,8 @@ use Rattle.vr_routes.proofs.CommitLemmas.{as_many_lists}
 use Rattle.vr_routes.specs.Changes.{AreParts}
 use Rattle.vr_costfilter.specs.GlobalCosts.{global_cost_of, vehicles_of}
 use Rattle.vr_costfilter.proofs.GlobalLemmas.{away, NonePays}
-use Rattle.vr_costfilter.specs.Spreads.{first_start, gives, global_least, global_least_in, last_end, no_spread, spread_after, spread_of_kept, with_changed, with_chosen, with_kept}
+use Rattle.vr_costfilter.specs.Spreads.{first_start, gives, global_least, global_least_in, last_end, no_spread, spread_after, spread_of_kept, with_changed}
+use Rattle.vr_costfilter.specs.Spreads.{with_chosen, with_kept}
 use Rattle.vr_costfilter.specs.Spreads.{IsSpread, IsSpreadInRange}
 use Rattle.vr_costfilter.specs.SortedVehicles.{names}
 use Rattle.vr_costfilter.proofs.ReachLemmas.{greatest-in, least-in}
@@ -49,12 +51,16 @@ least-high f (v ∷ vs) each = let i = fold-min_most (f v) (map f vs) in let a :
 
 -- ---- how far valid lists reach
 
-module _ (model : Model) (well : IsWellFormed model) (lists : List (List ℕ)) (valid : IsTrue (is_valid model lists)) (d : ℕ) (low : d < length model.dimensions) where
+module _ (model : Model) (well : IsWellFormed model) (lists : List (List ℕ))
+    (valid : IsTrue (is_valid model lists)) (d : ℕ) (low : d < length model.dimensions) where
   -- nothing is told yet
   pub spread-begins : (s : Spread) → s.last ≡ pos 0 → s.start ≡ horizon → s.span ≡ neg_ℤ horizon → IsSpread model lists d s
   spread-begins s last start span =
-      let ends = greatest-low (end_at (assigned model lists) d) (used_vehicles lists) (used-all (λ v. pos 0 ≤ℤ end_at (assigned model lists) d v) lists (λ v known used. (end-up_to model well lists valid d v low known used).at_least)) in
-      let starts = least-high (start_at (assigned model lists) d) (used_vehicles lists) (used-all (λ v. start_at (assigned model lists) d v ≤ℤ horizon) lists (λ v known used. (start-up_to model well lists valid d v low known used).at_most)) in
+      let ends = greatest-low (end_at (assigned model lists) d) (used_vehicles lists)
+      (used-all (λ v. pos 0 ≤ℤ end_at (assigned model lists) d v) lists (λ v known used. (end-up_to model well lists valid d v low known used).at_least)) in
+      let starts = least-high (start_at (assigned model lists) d) (used_vehicles lists)
+      (used-all (λ v. start_at (assigned model lists) d v ≤ℤ horizon) lists
+      (λ v known used. (start-up_to model well lists valid d v low known used).at_most)) in
       record {
         last = omega (arith, ints, ends, last);
         start = omega (arith, ints, starts, start);
@@ -75,7 +81,8 @@ module _ (model : Model) (well : IsWellFormed model) (lists : List (List ℕ)) (
         (least-in (start_at (assigned model lists) d) (used_vehicles lists) v among)
 
     -- a list more, at its chosen schedule
-    spread-chosen : (s t : Spread) → IsSpread model lists d s → t.last ≡ int_max s.last (last_with model d v (route lists v)) → t.start ≡ int_min s.start (start_with model d v (route lists v)) → t.span ≡ s.span
+    spread-chosen : (s t : Spread) → IsSpread model lists d s → t.last ≡ int_max s.last (last_with model d v (route lists v))
+        → t.start ≡ int_min s.start (start_with model d v (route lists v)) → t.span ≡ s.span
         → IsSpread model lists d t
     spread-chosen s t h last start span =
         let ends = ends-within in
@@ -89,7 +96,8 @@ module _ (model : Model) (well : IsWellFormed model) (lists : List (List ℕ)) (
         }
 
     -- a list more, by how early it can end and how short its span can be
-    spread-early : (s t : Spread) → IsSpread model lists d s → t.last ≡ int_max s.last (earliest_end model d v (route lists v)) → t.start ≡ s.start → t.span ≡ int_max s.span (least_span model d v (route lists v))
+    spread-early : (s t : Spread) → IsSpread model lists d s → t.last ≡ int_max s.last (earliest_end model d v (route lists v))
+        → t.start ≡ s.start → t.span ≡ int_max s.span (least_span model d v (route lists v))
         → IsSpread model lists d t
     spread-early s t h last start span =
         let ends = ends-within in
@@ -108,7 +116,8 @@ module _ (model : Model) (well : IsWellFormed model) (lists : List (List ℕ)) (
       → ((dimension_at model d).global_span_cost *ℤ int_max (s.last -ℤ s.start) s.span) ≤ℤ global_in model lists d
   spread-costs s h coefficient =
       let m = int_max_is (s.last -ℤ s.start) s.span in
-      times-le (dimension_at model d).global_span_cost (int_max (s.last -ℤ s.start) s.span) (last_end model lists d -ℤ first_start model lists d) coefficient (omega (arith, ints, m, h.last, h.start, h.span))
+      times-le (dimension_at model d).global_span_cost (int_max (s.last -ℤ s.start) s.span)
+      (last_end model lists d -ℤ first_start model lists d) coefficient (omega (arith, ints, m, h.last, h.start, h.span))
 
 -- ---- one list more of those after a change
 
@@ -117,8 +126,10 @@ pub names-gives : (parts : List ListAfter) (v : ℕ) → names (vehicles_of part
 names-gives [] v = refl
 names-gives (p ∷ ps) v = ap (λ b. (p.vehicle == v) || b) (names-gives ps v)
 
-pub kept-more : (model : Model) (lists : List (List ℕ)) (parts : List ListAfter) (d n : ℕ) → spread_of_kept model lists parts d (n + 1) ≡ with_kept model lists parts d (spread_of_kept model lists parts d n) n
-kept-more model lists parts d n = ap (fold (with_kept model lists parts d) no_spread) (below-more n) ∙ fold-append (with_kept model lists parts d) no_spread (below n) (n ∷ [])
+pub kept-more : (model : Model) (lists : List (List ℕ)) (parts : List ListAfter) (d n : ℕ)
+    → spread_of_kept model lists parts d (n + 1) ≡ with_kept model lists parts d (spread_of_kept model lists parts d n) n
+kept-more model lists parts d n = ap (fold (with_kept model lists parts d) no_spread) (below-more n)
+    ∙ fold-append (with_kept model lists parts d) no_spread (below n) (n ∷ [])
 
 -- a list that stays, where it has nodes
 abbrev pub reached : Model → ℕ → ℕ → List ℕ → Spread → Spread
@@ -126,7 +137,8 @@ reached model d v list s = record { last = int_max s.last (last_with model d v l
 
 -- a list that a part gives, where it has nodes
 abbrev pub reached-early : Model → ℕ → ℕ → List ℕ → Spread → Spread
-reached-early model d v list s = record { last = int_max s.last (earliest_end model d v list); start = s.start; span = int_max s.span (least_span model d v list) }
+reached-early model d v list s =
+    record { last = int_max s.last (earliest_end model d v list); start = s.start; span = int_max s.span (least_span model d v list) }
 
 -- a list that no part gives
 pub stays : (model : Model) (lists : List (List ℕ)) (parts : List ListAfter) (d v : ℕ) (s : Spread) → gives parts v ≡ false
@@ -135,7 +147,8 @@ stays model lists parts d v s none = ap (λ b. cond b s (with_chosen model d v (
 
 -- ---- the lists after a change reach no less
 
-module _ (model : Model) (well : IsWellFormed model) (lists : List (List ℕ)) (parts : List ListAfter) (are : AreParts lists parts) (valid : IsTrue (is_valid model (changed lists parts))) where
+module _ (model : Model) (well : IsWellFormed model) (lists : List (List ℕ)) (parts : List ListAfter)
+    (are : AreParts lists parts) (valid : IsTrue (is_valid model (changed lists parts))) where
   abbrev later : List (List ℕ)
   later = changed lists parts
 
@@ -169,16 +182,20 @@ module _ (model : Model) (well : IsWellFormed model) (lists : List (List ℕ)) (
             → IsSpread model later d (cond b s (reached-early model d (part_at parts k).vehicle (joined lists (part_at parts k).pieces) s))
         there true _ = h
         there false used =
-            spread-early model well later valid d low (part_at parts k).vehicle (let n = as_many_lists lists parts in let known = are.each_vehicle k no_part under in omega (arith, n, known)) (ap is_empty same ∙ used) s _ h
-            (ap (λ l. int_max s.last (earliest_end model d (part_at parts k).vehicle l)) (sym same)) refl (ap (λ l. int_max s.span (least_span model d (part_at parts k).vehicle l)) (sym same))
+            spread-early model well later valid d low (part_at parts k).vehicle
+            (let n = as_many_lists lists parts in let known = are.each_vehicle k no_part under in omega (arith, n, known)) (ap is_empty same ∙ used) s _ h
+            (ap (λ l. int_max s.last (earliest_end model d (part_at parts k).vehicle l)) (sym same)) refl
+            (ap (λ l. int_max s.span (least_span model d (part_at parts k).vehicle l)) (sym same))
 
     kept-reach : (n : ℕ) → n ≤ length lists → IsSpread model later d (spread_of_kept model lists parts d n)
     kept-reach zero high = spread-begins model well later valid d low no_spread refl refl refl
     kept-reach (suc n) high =
         subst (λ m. IsSpread model later d (spread_of_kept model lists parts d m)) (add-one n)
-        (subst (IsSpread model later d) (sym (kept-more model lists parts d n)) (kept-told n (omega (arith, high)) (spread_of_kept model lists parts d n) (kept-reach n (omega (arith, high)))))
+        (subst (IsSpread model later d) (sym (kept-more model lists parts d n))
+        (kept-told n (omega (arith, high)) (spread_of_kept model lists parts d n) (kept-reach n (omega (arith, high)))))
 
-    given-reach : (k : ℕ) → k ≤ length parts → IsSpread model later d (fold (with_changed model lists d) (spread_of_kept model lists parts d (length lists)) (take k parts))
+    given-reach : (k : ℕ) → k ≤ length parts
+        → IsSpread model later d (fold (with_changed model lists d) (spread_of_kept model lists parts d (length lists)) (take k parts))
     given-reach zero high = kept-reach (length lists) (omega arith)
     given-reach (suc k) high =
         let base = spread_of_kept model lists parts d (length lists) in
@@ -188,12 +205,14 @@ module _ (model : Model) (well : IsWellFormed model) (lists : List (List ℕ)) (
 
     after-reach : IsSpread model later d (spread_after model lists parts d)
     after-reach =
-        subst (λ ps. IsSpread model later d (fold (with_changed model lists d) (spread_of_kept model lists parts d (length lists)) ps)) (take_all (length parts) parts (omega arith))
+        subst (λ ps. IsSpread model later d (fold (with_changed model lists d) (spread_of_kept model lists parts d (length lists)) ps))
+        (take_all (length parts) parts (omega arith))
         (given-reach (length parts) (omega arith))
 
     least-in-dimension : pos 0 ≤ℤ (global_in model later d -ℤ global_least_in model lists parts d)
     least-in-dimension =
-        let c = spread-costs model well later valid d low (spread_after model lists parts d) after-reach (well.each_dimension d no_dimension low).global_span_cost_in_range.at_least in
+        let c = spread-costs model well later valid d low (spread_after model lists parts d)
+        after-reach (well.each_dimension d no_dimension low).global_span_cost_in_range.at_least in
         omega (arith, ints, c)
 
   -- valid lists after a change cost no less by their global spans
@@ -209,12 +228,14 @@ module _ (model : Model) (well : IsWellFormed model) (lists : List (List ℕ)) (
 pub none-least : (model : Model) → NonePays model → (lists : List (List ℕ)) (parts : List ListAfter) → global_least model lists parts ≡ pos 0
 none-least model none lists parts =
     sum_nothing (global_least_in model lists parts) 0 (length model.dimensions) (λ d _ low. times-none (dimension_at model d).global_span_cost
-    (int_max ((spread_after model lists parts d).last -ℤ (spread_after model lists parts d).start) (spread_after model lists parts d).span) (none d (omega (arith, low))))
+    (int_max ((spread_after model lists parts d).last -ℤ (spread_after model lists parts d).start) (spread_after model lists parts d).span)
+    (none d (omega (arith, low))))
 
 -- spreads of the same numbers
 pub same-spread : (a b : Spread) → a.last ≡ b.last → a.start ≡ b.start → a.span ≡ b.span → a ≡ b
 same-spread a b last start span =
-    ap₂ (λ (x y : ℤ). (let s : Spread = record { last = x; start = y; span = a.span } in s)) last start ∙ ap (λ (z : ℤ). (let s : Spread = record { last = b.last; start = b.start; span = z } in s)) span
+    ap₂ (λ (x y : ℤ). (let s : Spread = record { last = x; start = y; span = a.span } in s)) last start
+    ∙ ap (λ (z : ℤ). (let s : Spread = record { last = b.last; start = b.start; span = z } in s)) span
 
 -- ---- ranges
 

@@ -22,9 +22,11 @@ use Rattle.vr_costfilter.proofs.TimingLemmas.{IsTimed}
 
 -- where a list has a schedule, one is chosen
 pub chosen-feasible : (model : Model) (d v : ℕ) (list : List ℕ) → IsFeasible (line model d v list) → is_feasible (chosen_line model d v list) ≡ true
-chosen-feasible model d v list feasible = (chosen_under_where_feasible (vehicle_at model v).schedule (line model d v list) (stops_of_line model d v list)).1 feasible
+chosen-feasible model d v list feasible =
+    (chosen_under_where_feasible (vehicle_at model v).schedule (line model d v list) (stops_of_line model d v list)).1 feasible
 
-module _ (model : Model) (d v : ℕ) (list : List ℕ) (rule : (vehicle_at model v).schedule ≡ Tight) (feasible : IsFeasible (line model d v list)) (s e : ℤ) (least : IsLeastEnd (line model d v list) e) (latest : IsLatestStart (line model d v list) e s) where
+module _ (model : Model) (d v : ℕ) (list : List ℕ) (rule : (vehicle_at model v).schedule ≡ Tight) (feasible : IsFeasible (line model d v list))
+    (s e : ℤ) (least : IsLeastEnd (line model d v list) e) (latest : IsLatestStart (line model d v list) e s) where
   abbrev L : Line
   L = line model d v list
 
@@ -32,7 +34,8 @@ module _ (model : Model) (d v : ℕ) (list : List ℕ) (rule : (vehicle_at model
   plan = chosen_plan_of model d v list
 
   found : chosen (chosen_line model d v list) ≡ Some plan
-  found = there (chosen (chosen_line model d v list)) ((chosen_under_where_feasible (vehicle_at model v).schedule (line model d v list) (stops_of_line model d v list)).1 feasible)
+  found = there (chosen (chosen_line model d v list))
+      ((chosen_under_where_feasible (vehicle_at model v).schedule (line model d v list) (stops_of_line model d v list)).1 feasible)
     where
       there : (o : Option Plan) → IsTrue (is_some o) → o ≡ Some (unwrap_or o no_plan)
       there None h = absurd (let f : false ≡ true → ⊥ = λ e. Prim.cc in f h)
@@ -50,7 +53,8 @@ module _ (model : Model) (d v : ℕ) (list : List ℕ) (rule : (vehicle_at model
   ends : cumul plan (suc (length list)) ≡ e
   ends = ap (cumul plan) (sym (arcs_of_line model d v list)) ∙ tight.least_between.end_is ∙ same-end
 
-  pub ends-timed : CostsNoSoft (dimension_at model d) → IsIn (pos 0) horizon s → IsIn (pos 0) horizon e → (start last : ℤ) → start ≡ s → last ≡ e → IsTimed model d v list (record { soft = pos 0; start = start; last = last })
+  pub ends-timed : CostsNoSoft (dimension_at model d) → IsIn (pos 0) horizon s → IsIn (pos 0) horizon e → (start last : ℤ)
+      → start ≡ s → last ≡ e → IsTimed model d v list (record { soft = pos 0; start = start; last = last })
   ends-timed free s_in e_in start last start_is last_is = record {
     is_timing = record {
       soft = sym (free v list plan.cumuls);

@@ -1,5 +1,6 @@
 -- A vehicle that comes to its end so has gone along its chosen schedule.
-use Rattle.std.proofs.Common.{◌≡◌, ◌∙◌, ℕ, zero, suc, ◌+◌, ◌-◌, ◌*◌, ◌<◌, ◌≤◌, List, [], ◌∷◌, ◌++◌, length, map, take, get_or, refl, sym, ap, subst, add-one, arith, to_z, of_z, w64, Option, Some, None}
+use Rattle.std.proofs.Common.{◌≡◌, ◌∙◌, ℕ, zero, suc, ◌+◌, ◌-◌, ◌*◌, ◌<◌, ◌≤◌, List, [], ◌∷◌, ◌++◌, length, map, take, get_or, refl, sym, ap, subst, add-one}
+use Rattle.std.proofs.Common.{arith, to_z, of_z, w64, Option, Some, None}
 use Rattle.std.specs.Prelude.{◌==◌, ℤ, pos, ◌+ℤ◌, ◌-ℤ◌, ◌≤ℤ◌, IsTrue, is_some, option_map, slice_index_or, true, unwrap_or}
 use Rattle.std.specs.Int.{int_max}
 use Rattle.std.specs.List.{zip}
@@ -38,7 +39,8 @@ use Rattle.vr_costfilter.specs.Stages.{along, from_floor, setting_out, stage_at_
 use Rattle.vr_costfilter.specs.declared.guides.Stage.{Stage}
 use Rattle.vr_costfilter.specs.declared.trails.Step.{Step}
 use Rattle.vr_costfilter.proofs.FloorLemmas.{before-had, floor-had, many-steps, node-of}
-use Rattle.vr_costfilter.proofs.LeastLemmas.{allowed-in, arc-transit, arcs-many, begin-least, end-allows, floors-least, run-of, start-allows, start-least, step-least, step-node}
+use Rattle.vr_costfilter.proofs.LeastLemmas.{allowed-in, arc-transit, arcs-many, begin-least, end-allows, floors-least, run-of, start-allows, start-least}
+use Rattle.vr_costfilter.proofs.LeastLemmas.{step-least, step-node}
 use Rattle.vr_costfilter.proofs.StageLemmas.{gone, some-same, IsBehind}
 
 -- what the chosen schedule of a list comes to, and its numbers
@@ -63,7 +65,10 @@ soft-range None x is range = record { low = omega (arith, ints); high = omega (a
 soft-range (Some soft) x is range =
     let b = is.bound_in_range in
     let c = is.coefficient_in_range in
-    let y : IsAround 68719476736 (x -ℤ soft.bound) = record { low = omega (arith, ints, range.at_least, b.at_most); high = omega (arith, ints, range.at_most, b.at_least) } in
+    let y : IsAround 68719476736 (x -ℤ soft.bound) = record {
+      low = omega (arith, ints, range.at_least, b.at_most);
+      high = omega (arith, ints, range.at_most, b.at_least);
+    } in
     let m = int_max_is (pos 0) (x -ℤ soft.bound) in
     let p = mul-around soft.coefficient (int_max (pos 0) (x -ℤ soft.bound)) 68719476736 c.at_least c.at_most (max-around (x -ℤ soft.bound) 68719476736 y) in
     record { low = mul-sign soft.coefficient (int_max (pos 0) (x -ℤ soft.bound)) c.at_least (omega (arith, ints, m)); high = omega (arith, ints, p.high) }
@@ -88,7 +93,8 @@ sum-more (row ∷ rows) (c ∷ cs) x low = let more = sum-more rows cs x (omega 
 
 -- ---- the rows of stops
 
-row-behind : (f : ℕ → Option StopRow) (list : List ℕ) (last : Option StopRow) (k : ℕ) → k < length list → slice_index_or (map f list ++ last ∷ []) k None ≡ f (get_or list k 0)
+row-behind : (f : ℕ → Option StopRow) (list : List ℕ) (last : Option StopRow) (k : ℕ)
+    → k < length list → slice_index_or (map f list ++ last ∷ []) k None ≡ f (get_or list k 0)
 row-behind f [] last k low = absurd (omega (arith, low))
 row-behind f (x ∷ xs) last zero low = refl
 row-behind f (x ∷ xs) last (suc k) low = row-behind f xs last k (omega (arith, low))
@@ -103,7 +109,8 @@ rows-long f (x ∷ xs) last = ap suc (rows-long f xs last)
 
 -- ---- stop by stop
 
-module _ (model : Model) (well : IsWellFormed model) (d v : ℕ) (dimension : d < length model.dimensions) (runs : Runs) (list : List ℕ) (L : Line) (has : AllowsRuns model d v runs list L) (steps : List Step) (steps_are : AreSteps model d v runs list steps) where
+module _ (model : Model) (well : IsWellFormed model) (d v : ℕ) (dimension : d < length model.dimensions) (runs : Runs) (list : List ℕ)
+    (L : Line) (has : AllowsRuns model d v runs list L) (steps : List Step) (steps_are : AreSteps model d v runs list steps) where
   abbrev end : Step
   end = end_step model v runs
 
@@ -119,10 +126,12 @@ module _ (model : Model) (well : IsWellFormed model) (d v : ℕ) (dimension : d 
     pub high : stage.soft ≤ℤ pos (cumul_cost * (k + 1))
 
   starts-valid : (key : ℕ) → WherePresent IsStopRow (row_of (dimension_at model d).starts key)
-  starts-valid key = found_is IsStopRow (λ row. row.key == key) (dimension_at model d).starts (well.each_dimension d no_dimension dimension).rows_of_starts.each_row
+  starts-valid key =
+      found_is IsStopRow (λ row. row.key == key) (dimension_at model d).starts (well.each_dimension d no_dimension dimension).rows_of_starts.each_row
 
   nodes-valid : (key : ℕ) → WherePresent IsStopRow (row_of (dimension_at model d).nodes key)
-  nodes-valid key = found_is IsStopRow (λ row. row.key == key) (dimension_at model d).nodes (well.each_dimension d no_dimension dimension).rows_of_visits.each_row
+  nodes-valid key =
+      found_is IsStopRow (λ row. row.key == key) (dimension_at model d).nodes (well.each_dimension d no_dimension dimension).rows_of_visits.each_row
 
   ends-valid : (key : ℕ) → WherePresent IsStopRow (row_of (dimension_at model d).ends key)
   ends-valid key = found_is IsStopRow (λ row. row.key == key) (dimension_at model d).ends (well.each_dimension d no_dimension dimension).rows_of_ends.each_row
@@ -133,7 +142,8 @@ module _ (model : Model) (well : IsWellFormed model) (d v : ℕ) (dimension : d 
       row : Option StopRow
       row = row_of (dimension_at model d).starts v
 
-      by : (o : Option ℤ) → stop_floor model d v (vehicle_at model v).start runs.start (first_step_or steps (end_step model v runs)) ≡ o → option_map (stage_at_start model d v) o ≡ Some stage → Comes stage.cumul 0 stage
+      by : (o : Option ℤ) → stop_floor model d v (vehicle_at model v).start runs.start (first_step_or steps (end_step model v runs)) ≡ o
+          → option_map (stage_at_start model d v) o ≡ Some stage → Comes stage.cumul 0 stage
       by None is e = absurd (cc)
       by (Some x) is e =
           let node : ℕ = (vehicle_at model v).start in
@@ -142,7 +152,10 @@ module _ (model : Model) (well : IsWellFormed model) (d v : ℕ) (dimension : d 
           let most = floor.most in
           let m = int_max_is ((next.floor -ℤ transit model d v node next.node) -ℤ (dimension_at model d).slack_max) runs.start.lo in
           let run = start-allows model d v runs list L has in
-          let range : IsIn (pos 0) horizon x = record { at_least = omega (arith, ints, floor.is, m, run.ends.lo.at_least); at_most = omega (arith, ints, most, run.ends.hi.at_most) } in
+          let range : IsIn (pos 0) horizon x = record {
+            at_least = omega (arith, ints, floor.is, m, run.ends.lo.at_least);
+            at_most = omega (arith, ints, most, run.ends.hi.at_most);
+          } in
           let costs = row-range row x (starts-valid v) range in
           let none = sum-none (map (row_of (dimension_at model d).nodes) list ++ row_of (dimension_at model d).ends v ∷ []) in
           let there = allowed-in L 0 runs.start x run (omega (arith, ints, floor.is, m)) most in
@@ -159,7 +172,8 @@ module _ (model : Model) (well : IsWellFormed model) (d v : ℕ) (dimension : d 
 
   -- over the arc from stop k, to a floor below which no schedule comes to the next one
   over : (first : ℤ) (k : ℕ) (stage next : Stage) → k ≤ length list → Comes first k stage → (allowed : Run) → IsAllowedRun L (k + 1) allowed
-      → (floor : ℤ) → allowed.lo ≤ℤ floor → ((plan : Plan) → IsSchedule L plan → floor ≤ℤ cumul plan (k + 1)) → (row : Option StopRow) → WherePresent IsStopRow row
+      → (floor : ℤ) → allowed.lo ≤ℤ floor → ((plan : Plan) → IsSchedule L plan → floor ≤ℤ cumul plan (k + 1))
+      → (row : Option StopRow) → WherePresent IsStopRow row
       → slice_index_or (stop_rows (dimension_at model d) v list) (k + 1) None ≡ row → (node : ℕ) → node ≡ node_at_stop model v list (k + 1)
       → IsBehind (transit model d v stage.at node) (dimension_at model d).slack_max node (from_floor floor allowed) row stage next → Comes first (k + 1) next
   over first k stage next le comes allowed is floor above none_before row valid at node to behind =
@@ -170,11 +184,16 @@ module _ (model : Model) (well : IsWellFormed model) (d v : ℕ) (dimension : d 
       let most = behind.earliest.most in
       let slack = behind.earliest.slack in
       let m = int_max_is (stage.cumul +ℤ transit model d v stage.at node) floor in
-      let range : IsIn (pos 0) horizon x = record { at_least = omega (arith, ints, least, m, is.ends.lo.at_least, above); at_most = omega (arith, ints, most, is.ends.hi.at_most) } in
+      let range : IsIn (pos 0) horizon x = record {
+        at_least = omega (arith, ints, least, m, is.ends.lo.at_least, above);
+        at_most = omega (arith, ints, most, is.ends.hi.at_most);
+      } in
       let costs = row-range row x valid range in
       let n = rows-long (row_of (dimension_at model d).nodes) list (row_of (dimension_at model d).ends v) in
-      let next_row : slice_index_or (stop_rows (dimension_at model d) v list) (length old) None ≡ row = ap (λ i. slice_index_or (stop_rows (dimension_at model d) v list) i None) (many ∙ sym (add-one k)) ∙ at in
-      let more = sum-more (stop_rows (dimension_at model d) v list) old x (omega (arith, many, n, le)) ∙ ap (λ o. soft_of (dimension_at model d) v list old +ℤ row_cost o x) next_row in
+      let next_row : slice_index_or (stop_rows (dimension_at model d) v list) (length old) None ≡ row =
+      ap (λ i. slice_index_or (stop_rows (dimension_at model d) v list) i None) (many ∙ sym (add-one k)) ∙ at in
+      let more = sum-more (stop_rows (dimension_at model d) v list) old x (omega (arith, many, n, le))
+      ∙ ap (λ o. soft_of (dimension_at model d) v list old +ℤ row_cost o x) next_row in
       let there = allowed-in L (k + 1) allowed x is (omega (arith, ints, least, m, above)) most in
       record {
         cumuls = old ++ x ∷ [];
@@ -194,7 +213,8 @@ module _ (model : Model) (well : IsWellFormed model) (d v : ℕ) (dimension : d 
       way : transit model d v stage.at node ≡ (arc_at L k).transit
       way = arc-transit model d v runs list L has k stage.at node le comes.at to
 
-      slack-left : t ≡ (arc_at L k).transit → number_at comes.cumuls k ≡ stage.cumul → next.cumul ≡ int_max (stage.cumul +ℤ t) floor → (next.cumul -ℤ (stage.cumul +ℤ t)) ≤ℤ (dimension_at model d).slack_max
+      slack-left : t ≡ (arc_at L k).transit → number_at comes.cumuls k ≡ stage.cumul
+          → next.cumul ≡ int_max (stage.cumul +ℤ t) floor → (next.cumul -ℤ (stage.cumul +ℤ t)) ≤ℤ (dimension_at model d).slack_max
           → IsIn (pos 0) L.slack_max ((next.cumul -ℤ number_at comes.cumuls k) -ℤ (arc_at L k).transit)
       slack-left way last least most =
           let m = int_max_is (stage.cumul +ℤ t) floor in
@@ -212,7 +232,8 @@ module _ (model : Model) (well : IsWellFormed model) (d v : ℕ) (dimension : d 
           let there = subst (λ i. floor ≤ℤ cumul plan i) (add-one k) (none_before plan s) in
           omega (arith, ints, way, last, least, m, left, none, first, there)
 
-  visits : (first : ℤ) (k : ℕ) (stage next : Stage) → k < length list → Comes first k stage → to_visit model d v runs (slice_index_or steps k (end_step model v runs)) stage ≡ Some next → Comes first (k + 1) next
+  visits : (first : ℤ) (k : ℕ) (stage next : Stage) → k < length list → Comes first k stage
+      → to_visit model d v runs (slice_index_or steps k (end_step model v runs)) stage ≡ Some next → Comes first (k + 1) next
   visits first k stage next low comes e =
       let step : Step = slice_index_or steps k end in
       let n = many-steps model d v runs list steps steps_are in
@@ -224,8 +245,11 @@ module _ (model : Model) (well : IsWellFormed model) (d v : ℕ) (dimension : d 
       let floor = floor-had behind.floor (transit model d v step.node behind.node) (dimension_at model d).slack_max allowed step.floor is.floor in
       let m = int_max_is ((behind.floor -ℤ transit model d v step.node behind.node) -ℤ (dimension_at model d).slack_max) allowed.lo in
       over first k stage next (omega (arith, low)) comes allowed (run-of model d v runs list L has steps steps_are k end low)
-      step.floor (omega (arith, ints, floor.is, m)) (λ plan s. floors-least model d v runs list L has steps steps_are plan s (left k low) k (left-is k low)) row (nodes-valid step.node)
-      (subst (λ i. slice_index_or (stop_rows (dimension_at model d) v list) i None ≡ row) (sym (add-one k)) (row-behind (row_of (dimension_at model d).nodes) list (row_of (dimension_at model d).ends v) k low ∙ ap (row_of (dimension_at model d).nodes) (sym node)))
+      step.floor (omega (arith, ints, floor.is, m))
+      (λ plan s. floors-least model d v runs list L has steps steps_are plan s (left k low) k (left-is k low)) row (nodes-valid step.node)
+      (subst (λ i. slice_index_or (stop_rows (dimension_at model d) v list) i None ≡ row) (sym (add-one k))
+      (row-behind (row_of (dimension_at model d).nodes) list (row_of (dimension_at model d).ends v) k low
+      ∙ ap (row_of (dimension_at model d).nodes) (sym node)))
       step.node (step-node model d v runs list L has steps steps_are k (omega (arith, low)))
       (gone (transit model d v stage.at step.node) (dimension_at model d).slack_max step.node (from_floor step.floor allowed) row stage next e)
     where
@@ -240,15 +264,20 @@ module _ (model : Model) (well : IsWellFormed model) (d v : ℕ) (dimension : d 
       let node : ℕ = (vehicle_at model v).end in
       let row : Option StopRow = row_of (dimension_at model d).ends v in
       over first (length list) stage next (omega arith) comes runs.finish (end-allows model d v runs list L has (length list) refl)
-      runs.finish.lo (omega (arith, ints)) (λ plan s. end-least plan (floors-least model d v runs list L has steps steps_are plan s 0 (length list) (omega arith))) row (ends-valid v)
-      (subst (λ i. slice_index_or (stop_rows (dimension_at model d) v list) i None ≡ row) (sym (add-one (length list))) (row-last (row_of (dimension_at model d).nodes) list row))
+      runs.finish.lo (omega (arith, ints))
+      (λ plan s. end-least plan (floors-least model d v runs list L has steps steps_are plan s 0 (length list) (omega arith))) row (ends-valid v)
+      (subst (λ i. slice_index_or (stop_rows (dimension_at model d) v list) i None ≡ row)
+      (sym (add-one (length list))) (row-last (row_of (dimension_at model d).nodes) list row))
       node (sym (end_node model v list (length list) refl))
       (gone (transit model d v stage.at node) (dimension_at model d).slack_max node runs.finish row stage next e)
     where
-      end-least : (plan : Plan) → (slice_index_or steps (length list) (end_step model v runs)).floor ≤ℤ cumul plan (length list + 1) → runs.finish.lo ≤ℤ cumul plan (length list + 1)
-      end-least plan h = subst (λ (x : Step). x.floor ≤ℤ cumul plan (length list + 1)) (get_or_past steps (length list) end (let n = many-steps model d v runs list steps steps_are in omega (arith, n))) h
+      end-least : (plan : Plan) → (slice_index_or steps (length list) (end_step model v runs)).floor ≤ℤ cumul plan (length list + 1)
+          → runs.finish.lo ≤ℤ cumul plan (length list + 1)
+      end-least plan h = subst (λ (x : Step). x.floor ≤ℤ cumul plan (length list + 1))
+          (get_or_past steps (length list) end (let n = many-steps model d v runs list steps steps_are in omega (arith, n))) h
 
-  comes-to : (first : Stage) → setting_out model d v runs (first_step_or steps (end_step model v runs)) ≡ Some first → (k : ℕ) → k ≤ length list → (stage : Stage)
+  comes-to : (first : Stage) → setting_out model d v runs (first_step_or steps (end_step model v runs)) ≡ Some first
+      → (k : ℕ) → k ≤ length list → (stage : Stage)
       → along model d v runs (setting_out model d v runs (first_step_or steps (end_step model v runs))) (take k steps) ≡ Some stage → Comes first.cumul k stage
   comes-to first out zero le stage e = subst (λ (s : Stage). Comes first.cumul 0 s) (some-same first stage (sym out ∙ e)) (begins first out)
   comes-to first out (suc k) le stage e =
@@ -258,16 +287,19 @@ module _ (model : Model) (well : IsWellFormed model) (d v : ℕ) (dimension : d 
       let split = sym (fold_more (visit_more model d v runs) (setting_out model d v runs (first_step_or steps end)) steps k end (omega (arith, low, n)))
       ∙ ap (λ n. along model d v runs (setting_out model d v runs (first_step_or steps end)) (take n steps)) (add-one k) ∙ e in
       subst (λ n. Comes first.cumul n stage) (add-one k)
-      (option_and_then_some (to_visit model d v runs step) (along model d v runs (setting_out model d v runs (first_step_or steps end)) (take k steps)) stage split
+      (option_and_then_some (to_visit model d v runs step)
+      (along model d v runs (setting_out model d v runs (first_step_or steps end)) (take k steps)) stage split
       (λ before told more. visits first.cumul k before stage low (comes-to first out k (omega (arith, low)) before told) more))
 
   -- at the end it has the timing of the chosen schedule, where this is that of the line
-  module _ (law : ChosenIsLeast) (is : chosen_line model d v list ≡ L) (first last : Stage) (out : setting_out model d v runs (first_step_or steps (end_step model v runs)) ≡ Some first)
+  module _ (law : ChosenIsLeast) (is : chosen_line model d v list ≡ L) (first last : Stage)
+      (out : setting_out model d v runs (first_step_or steps (end_step model v runs)) ≡ Some first)
       (told : along_to_end model d v runs (setting_out model d v runs (first_step_or steps (end_step model v runs))) steps ≡ Some last) where
     comes : Comes first.cumul (length list + 1) last
     comes = option_and_then_some (to_end model d v runs) (along model d v runs (setting_out model d v runs (first_step_or steps end)) steps) last told
         (λ before there more. ends first.cumul before last (comes-to first out (length list) (omega arith) before
-        (ap (along model d v runs (setting_out model d v runs (first_step_or steps end))) (take_all (length list) steps (let n = many-steps model d v runs list steps steps_are in omega (arith, n))) ∙ there)) more)
+        (ap (along model d v runs (setting_out model d v runs (first_step_or steps end)))
+        (take_all (length list) steps (let n = many-steps model d v runs list steps steps_are in omega (arith, n))) ∙ there)) more)
 
     chosen-are : AreChosen L comes.cumuls
     chosen-are =
@@ -327,5 +359,9 @@ module _ (model : Model) (well : IsWellFormed model) (d v : ℕ) (dimension : d 
       start-read : to_z w64 (of_z w64 start) ≡ first.cumul
       start-read = ap (λ x. to_z w64 (of_z w64 x)) start_is ∙ read-cumul first.cumul first-range
 
-      pub timed : HasTiming model d v list (record { soft = to_z w64 (of_z w64 last.soft); start = to_z w64 (of_z w64 start); last = to_z w64 (of_z w64 last.cumul) })
-      timed = record { feasible = ap is_feasible is ∙ line-feasible; timed = record { is_timing = is-timing _ soft-read start-read last-read; range = timing-range _ soft-read start-read last-read } }
+      pub timed : HasTiming model d v list
+          (record { soft = to_z w64 (of_z w64 last.soft); start = to_z w64 (of_z w64 start); last = to_z w64 (of_z w64 last.cumul) })
+      timed = record {
+        feasible = ap is_feasible is ∙ line-feasible;
+        timed = record { is_timing = is-timing _ soft-read start-read last-read; range = timing-range _ soft-read start-read last-read };
+      }

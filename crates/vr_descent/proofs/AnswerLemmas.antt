@@ -88,7 +88,14 @@ module _ (model : Model) (first : List (List ℕ)) (limit : Limit) where
   -- an event more changes no list and no number
   pub sound_told : (event : Event) (rest : Outcome) → IsSoundAnswer model first limit rest → IsSoundAnswer model first limit (with_event event rest)
   sound_told event rest a =
-      record { best_valid = a.best_valid; last_valid = a.last_valid; no_dearer = a.no_dearer; tries = a.tries; some_solution = a.some_solution; solutions = a.solutions }
+      record {
+        best_valid = a.best_valid;
+        last_valid = a.last_valid;
+        no_dearer = a.no_dearer;
+        tries = a.tries;
+        some_solution = a.some_solution;
+        solutions = a.solutions;
+      }
 
   -- a search by at most so many rounds, which keeps something beside where it stands
   module _ {Kept : Type 0} (from : ℕ → Kept → SearchState → Outcome) where
@@ -98,8 +105,10 @@ module _ (model : Model) (first : List (List ℕ)) (limit : Limit) where
 
     -- its answers are sound where those are that end it, and each round gives such an answer if what is behind it does
     pub sound_by_rounds : SoundBy zero
-        → ((rounds : ℕ) (kept : Kept) (state : SearchState) → IsSoundState state → (state.found == limit.solutions) ≡ true → IsSoundAnswer model first limit (from (suc rounds) kept state))
-        → ((rounds : ℕ) (kept : Kept) (state : SearchState) → IsSoundState state → (state.found == limit.solutions) ≡ false → SoundBy rounds → IsSoundAnswer model first limit (from (suc rounds) kept state))
+        → ((rounds : ℕ) (kept : Kept) (state : SearchState) → IsSoundState state
+        → (state.found == limit.solutions) ≡ true → IsSoundAnswer model first limit (from (suc rounds) kept state))
+        → ((rounds : ℕ) (kept : Kept) (state : SearchState) → IsSoundState state → (state.found == limit.solutions) ≡ false
+        → SoundBy rounds → IsSoundAnswer model first limit (from (suc rounds) kept state))
         → (rounds : ℕ) → SoundBy rounds
     sound_by_rounds none enough more zero kept state sound = none kept state sound
     sound_by_rounds none enough more (suc rounds) kept state sound = go (state.found == limit.solutions) refl (sound_by_rounds none enough more rounds)
@@ -121,10 +130,12 @@ module _ (model : Model) (first : List (List ℕ)) (limit : Limit) where
       → (s : Scan) → EndsAs (moves model state.lists) (makes_cheaper model state.lists) (limit.tries - state.used) s
       → IsSoundAnswer model first limit (descended model limit (descent_from model limit scans) state s)
   goes_on scans state sound more again (Accepted n mv) ends =
-      sound_told model first limit _ _ (again (accepted model state n mv) (sound_accepted model first limit state n mv sound ends.1 more (first_of _ _ ends.0.acceptable_there)))
+      sound_told model first limit _ _
+      (again (accepted model state n mv) (sound_accepted model first limit state n mv sound ends.1 more (first_of _ _ ends.0.acceptable_there)))
   goes_on scans state sound more again (Complete n) ends = sound_end model first limit (tried state n) _ (sound_tried model first limit state n sound ends.2)
   goes_on scans state sound more again Cut ends =
-      sound_end model first limit (tried state (limit.tries - state.used)) _ (sound_tried model first limit state (limit.tries - state.used) sound (omega arith))
+      sound_end model first limit (tried state (limit.tries - state.used)) _
+      (sound_tried model first limit state (limit.tries - state.used) sound (omega arith))
 
   sound_from : (scans : ℕ) (state : SearchState) → IsSoundState model first limit state → IsSoundAnswer model first limit (descent_from model limit scans state)
   unfolding descent_from
@@ -135,7 +146,8 @@ module _ (model : Model) (first : List (List ℕ)) (limit : Limit) where
           → ((next : SearchState) → IsSoundState model first limit next → IsSoundAnswer model first limit (descent_from model limit scans next))
           → IsSoundAnswer model first limit (descent_from model limit (suc scans) state)
       go true e again = rw (e, descent_from) (sound_end model first limit state _ sound)
-      go false e again = rw (e, descent_from) (goes_on scans state sound e again _ (scan_ends (moves model state.lists) (makes_cheaper model state.lists) (limit.tries - state.used)))
+      go false e again = rw (e, descent_from)
+          (goes_on scans state sound e again _ (scan_ends (moves model state.lists) (makes_cheaper model state.lists) (limit.tries - state.used)))
 
 pub descent_is_sound : DescentIsSound
 unfolding descent

@@ -6,7 +6,8 @@ use Rattle.vr_routes.specs.Tours.{Tours}
 use Rattle.vr_descent.specs.Asking.{AsksFor, AsksOn, Keeps}
 use Rattle.vr_descent.proofs.PassedLemmas.{looks_few}
 
-pub keeps_then : {J : Type 0} {model_of : J → Model} {holds : J → Tours → Type 0} {routes : Tours} (a b c : J) → Keeps model_of holds routes a b → Keeps model_of holds routes b c → Keeps model_of holds routes a c
+pub keeps_then : {J : Type 0} {model_of : J → Model} {holds : J → Tours → Type 0} {routes : Tours} (a b c : J)
+    → Keeps model_of holds routes a b → Keeps model_of holds routes b c → Keeps model_of holds routes a c
 keeps_then a b c first then = record { model = then.model ∙ first.model; committed = then.committed }
 
 module _ {J : Type 0} {judged seen : J → ℕ} where
@@ -62,4 +63,5 @@ module _ {J : Type 0} {judged seen : J → ℕ} where
     -- and so where a move was tried then
     pub asks_tried : (d : J) (to : ℕ) → judged d ≤ judged c + 1 → seen d ≤ seen c + 1 → reached + more ≤ to → suc place ≤ to → AsksFor judged seen a d to
     asks_tried d to asked looked there behind =
-        let most = few.0 in record { asked = omega (arith, before.asked, same, asked, behind); looked = omega (arith, before.looked, most, looked, there, behind) }
+        let most = few.0 in
+        record { asked = omega (arith, before.asked, same, asked, behind); looked = omega (arith, before.looked, most, looked, there, behind) }

@@ -30,7 +30,8 @@ abbrev pub first : Model → List (List ℕ) → Event
 first model lists = event_at model (begun lists) kind.First
 
 -- the cost of the first lists is read as it is, and so the first event tells of it
-module _ (model : Model) (well_formed : IsWellFormed model) (lists : List (List ℕ)) (valid : IsTrue (is_valid model lists)) (total : ℤ) (costs : total ≡ cost model lists) where
+module _ (model : Model) (well_formed : IsWellFormed model) (lists : List (List ℕ))
+    (valid : IsTrue (is_valid model lists)) (total : ℤ) (costs : total ≡ cost model lists) where
   pub cost_read : to_z w64 (of_z w64 total) ≡ cost model lists
   cost_read = let fits = costs_are_bounded model well_formed lists valid in omega (arith, ints, costs, fits.least, fits.greatest)
 
@@ -50,7 +51,8 @@ module _ {W : Type 0} (after : W → List Event → List ℕ) (whole rest : Outc
   first_told told = goes_more after whole rest (event ∷ []) a a b start told
 
 -- the first lists are the best
-pub first_is_best : (model : Model) (routes : Tours) (best : Incumbent) → best ≡ record { routes = routes; cost = cost model routes.lists } → IsTrue (is_valid model routes.lists) → IsBest model routes.visits best
+pub first_is_best : (model : Model) (routes : Tours) (best : Incumbent) → best ≡ record { routes = routes; cost = cost model routes.lists }
+    → IsTrue (is_valid model routes.lists) → IsBest model routes.visits best
 first_is_best model routes best is valid = record {
   costs = ap (λ b. b.cost) is ∙ sym (ap (λ b. cost model b.routes.lists) is);
   valid = ap (λ b. is_valid model b.routes.lists) is ∙ valid;
@@ -58,7 +60,8 @@ first_is_best model routes best is valid = record {
 }
 
 -- at its beginning a search is under way
-pub under_way : (model : Model) (limit : Limit) (routes : Tours) (at : Progress) (best : Incumbent) (committed : Tours → Type 0) → at ≡ at_first model routes.lists → best ≡ record { routes = routes; cost = cost model routes.lists }
+pub under_way : (model : Model) (limit : Limit) (routes : Tours) (at : Progress) (best : Incumbent) (committed : Tours → Type 0)
+    → at ≡ at_first model routes.lists → best ≡ record { routes = routes; cost = cost model routes.lists }
     → HasCommitted model committed routes → 1 ≤ limit.solutions → IsUnderWay model limit committed routes at best
 under_way model limit routes at best committed at_is best_is holds some =
     let used = ap (λ p. p.used) at_is in

@@ -60,14 +60,17 @@ module _ (model : Model) (limit : Limit) where
     as_improving : (s : Scan) → scanned_as s → scan (moves model lists) (makes_cheaper model lists) (limit.tries - used) ≡ s
     as_improving s h = ap (λ test. scan (moves model lists) test (limit.tries - used)) (sym (same_improves model lists)) ∙ h
 
-    pub on_complete : (found == limit.solutions) ≡ false → (n : ℕ) → scanned_as (complete n) → from_here lists used found ≡ ended (tried (standing lists used found) n) Optimum
+    pub on_complete : (found == limit.solutions) ≡ false → (n : ℕ) → scanned_as (complete n)
+        → from_here lists used found ≡ ended (tried (standing lists used found) n) Optimum
     on_complete e n h = scanned e (complete n) (as_improving (complete n) h)
 
-    pub on_cut : (found == limit.solutions) ≡ false → scanned_as cut → from_here lists used found ≡ ended (tried (standing lists used found) (limit.tries - used)) Tries
+    pub on_cut : (found == limit.solutions) ≡ false → scanned_as cut
+        → from_here lists used found ≡ ended (tried (standing lists used found) (limit.tries - used)) Tries
     on_cut e h = scanned e cut (as_improving cut h)
 
     -- the descent goes on from the lists after the move
-    pub on_accepted : (found == limit.solutions) ≡ false → (n : ℕ) (mv : Move) → scanned_as (accepted_as n mv) → 1 ≤ n → n ≤ limit.tries - used → takes_less lists mv (cost_change model lists mv) ≡ true
+    pub on_accepted : (found == limit.solutions) ≡ false → (n : ℕ) (mv : Move) → scanned_as (accepted_as n mv)
+        → 1 ≤ n → n ≤ limit.tries - used → takes_less lists mv (cost_change model lists mv) ≡ true
         → from_here lists used found ≡ with_event (move_event model lists mv (used + n)) (from_here (apply model lists mv) (used + n) (found + 1))
     on_accepted e n mv h one low t = scanned e (accepted_as n mv) (as_improving (accepted_as n mv) h)
         ∙ ap (with_event (move_event model lists mv (used + n))) (ap (descent_from model limit (limit.tries - used)) same ∙ fewer)
@@ -82,7 +85,8 @@ module _ (model : Model) (limit : Limit) where
             one_more : (k : ℕ) → suc k ≡ k + 1
             one_more k = omega arith
 
-        fewer : descent_from model limit (limit.tries - used) (standing (apply model lists mv) (used + n) (found + 1)) ≡ from_here (apply model lists mv) (used + n) (found + 1)
+        fewer : descent_from model limit (limit.tries - used) (standing (apply model lists mv) (used + n) (found + 1))
+            ≡ from_here (apply model lists mv) (used + n) (found + 1)
         fewer = let scans = suc (limit.tries - (used + n)) in let more = (limit.tries - used) - suc (limit.tries - (used + n)) in
             let sum : limit.tries - used ≡ scans + more = omega (arith, one, low) in
             ap (λ k. descent_from model limit k (standing (apply model lists mv) (used + n) (found + 1))) sum
@@ -95,11 +99,14 @@ module _ (model : Model) (limit : Limit) where
     left_after cut = ended (tried (standing lists used found) (limit.tries - used)) Tries
 
     -- the descent is the events of a scan, and what is left after it
-    pub on_scan : (found == limit.solutions) ≡ false → from_here lists used found ≡ behind (events_after model lists used (scan_of model takes_less limit lists used)) (left_after (scan_of model takes_less limit lists used))
+    pub on_scan : (found == limit.solutions) ≡ false → from_here lists used found
+        ≡ behind (events_after model lists used (scan_of model takes_less limit lists used)) (left_after (scan_of model takes_less limit lists used))
     on_scan e = go (scan_of model takes_less limit lists used) refl
       where
         go : (s : Scan) → scan_of model takes_less limit lists used ≡ s → from_here lists used found ≡ behind (events_after model lists used s) (left_after s)
-        go (accepted_as n mv) h = let at = accepted_where model takes_less lists (limit.tries - used) n mv h in on_accepted e n mv h at.from_one at.within at.takes_it
+        go (accepted_as n mv) h =
+            let at = accepted_where model takes_less lists (limit.tries - used) n mv h in
+            on_accepted e n mv h at.from_one at.within at.takes_it
         go (complete n) h = on_complete e n h
         go cut h = on_cut e h
 

@@ -27,7 +27,8 @@ use Rattle.vr_descent.proofs.ScanGave.{Moved, RanOut, TriedAll}
 
 -- the whole descent is the descent from here, behind what was told; the lists cost so much, and no more than the first;
 -- and tries and solutions are within the limit
-pub record Descends {W : Type 0} (after : W → List Event → List ℕ) (model : Model) (limit : Limit) (first : List (List ℕ)) (old new : List W) (routes : Tours) (at : Progress) : Type 0 where
+pub record Descends {W : Type 0} (after : W → List Event → List ℕ) (model : Model) (limit : Limit)
+    (first : List (List ℕ)) (old new : List W) (routes : Tours) (at : Progress) : Type 0 where
   pub costs : at.cost ≡ cost model routes.lists
   pub no_dearer : cost model routes.lists ≤ℤ cost model first
   pub used : at.used ≤ limit.tries
@@ -35,13 +36,18 @@ pub record Descends {W : Type 0} (after : W → List Event → List ℕ) (model 
   pub found : at.found ≤ limit.solutions
   pub goes : Goes after (descent model first limit) (from_here model limit routes.lists at.used at.found) old new
 
-module _ {W : Type 0} (after : W → List Event → List ℕ) (model : Model) (limit : Limit) (from : Tours) (held : Tours → Type 0) (begun : HasCommitted model held from) (old new : List W) (routes : Tours) (at : Progress) (stands : Descends after model limit from.lists old new routes at) where
+module _ {W : Type 0} (after : W → List Event → List ℕ) (model : Model) (limit : Limit) (from : Tours)
+    (held : Tours → Type 0) (begun : HasCommitted model held from) (old new : List W) (routes : Tours)
+    (at : Progress) (stands : Descends after model limit from.lists old new routes at) where
   abbrev whole : Outcome
   whole = descent model from.lists limit
 
   -- it ends with so many tries, where the routes are still the same, and with this report
-  ends_at : (later : List W) (tours : Tours) (now : Progress) (used : ℕ) (stop : End) → Goes after whole (ended (standing model limit routes.lists used at.found) stop) old later → now ≡ record { used = used; found = at.found; cost = at.cost } → tours ≡ routes → used ≤ limit.tries
-      → (judged : Tours → Type 0) → HasCommitted model judged tours → (stated : Report) → stated ≡ report_of now stop → HasEnded after model limit whole from tours old later stated tours
+  ends_at : (later : List W) (tours : Tours) (now : Progress) (used : ℕ) (stop : End)
+      → Goes after whole (ended (standing model limit routes.lists used at.found) stop) old later
+      → now ≡ record { used = used; found = at.found; cost = at.cost } → tours ≡ routes → used ≤ limit.tries
+      → (judged : Tours → Type 0) → HasCommitted model judged tours → (stated : Report)
+      → stated ≡ report_of now stop → HasEnded after model limit whole from tours old later stated tours
   ends_at later tours now used stop goes at_is routes_are low judged holds stated stated_is =
       let reported : stated ≡ record { tries = used; solutions = at.found; «end» = stop } = stated_is ∙ ap (λ p. report_of p stop) at_is in
       record {
@@ -58,9 +64,11 @@ module _ {W : Type 0} (after : W → List Event → List ℕ) (model : Model) (l
       }
 
   -- enough solutions were found
-  pub ends_enough : at.found ≡ limit.solutions → (judged : Tours → Type 0) → HasCommitted model judged routes → (stated : Report) → stated ≡ report_of at Solutions → HasEnded after model limit whole from routes old new stated routes
+  pub ends_enough : at.found ≡ limit.solutions → (judged : Tours → Type 0) → HasCommitted model judged routes
+      → (stated : Report) → stated ≡ report_of at Solutions → HasEnded after model limit whole from routes old new stated routes
   ends_enough all = ends_at new routes at at.used Solutions
-      (goes_as after whole _ _ old new (enough model limit routes.lists at.used at.found (same_count at.found limit.solutions all)) stands.goes) refl refl stands.used
+      (goes_as after whole _ _ old new (enough model limit routes.lists at.used at.found (same_count at.found limit.solutions all)) stands.goes) refl
+      refl stands.used
 
   module _ (later : List W) (more : (at.found ≡ limit.solutions) → ⊥) where
     abbrev scan : Scan
@@ -78,10 +86,12 @@ module _ {W : Type 0} (after : W → List Event → List ℕ) (model : Model) (l
 
     module _ (told : Reported after new later (events_after model routes.lists at.used scan)) (tours : Tours) (now : Progress) where
       after_scan : (s : Scan) → scan ≡ s → Goes after whole (left s) old later
-      after_scan s e = subst (λ x. Goes after whole (left x) old later) e (goes_more after whole (left scan) (events_after model routes.lists at.used scan) old new later on told)
+      after_scan s e = subst (λ x. Goes after whole (left x) old later) e
+          (goes_more after whole (left scan) (events_after model routes.lists at.used scan) old new later on told)
 
       -- a move was made
-      pub descends_on : (place : ℕ) (mv : Move) → Moved model takes_less limit routes tours at now place mv → Descends after model limit from.lists old later tours now
+      pub descends_on : (place : ℕ) (mv : Move) → Moved model takes_less limit routes tours at now place mv
+          → Descends after model limit from.lists old later tours now
       descends_on place mv gave =
           let used_new = ap (λ p. p.used) gave.at_is in
           let found_new = ap (λ p. p.found) gave.at_is in
@@ -93,15 +103,21 @@ module _ {W : Type 0} (after : W → List Event → List ℕ) (model : Model) (l
             some = omega (arith, found_new);
             found = omega (arith, found_new, stands.found, more);
             goes = subst (λ p. Goes after whole (from_here model limit tours.lists p.used p.found) old later) (sym gave.at_is)
-                (subst (λ r. Goes after whole (from_here model limit r.lists (at.used + place) (at.found + 1)) old later) (sym gave.routes_are) (after_scan (accepted place mv) gave.scanned));
+                (subst (λ r. Goes after whole (from_here model limit r.lists (at.used + place) (at.found + 1)) old later)
+                (sym gave.routes_are) (after_scan (accepted place mv) gave.scanned));
           }
 
       -- all moves were tried
-      pub ends_complete : (n : ℕ) → TriedAll model takes_less limit routes tours at now n → (judged : Tours → Type 0) → HasCommitted model judged tours → (stated : Report) → stated ≡ report_of now Optimum → HasEnded after model limit whole from tours old later stated tours
-      ends_complete n gave = ends_at later tours now (at.used + n) Optimum (after_scan (complete n) gave.scanned) gave.at_is gave.routes_are (let within = gave.within in omega (arith, within, stands.used))
+      pub ends_complete : (n : ℕ) → TriedAll model takes_less limit routes tours at now n → (judged : Tours → Type 0) → HasCommitted model judged tours
+          → (stated : Report) → stated ≡ report_of now Optimum → HasEnded after model limit whole from tours old later stated tours
+      ends_complete n gave = ends_at later tours now (at.used + n) Optimum (after_scan (complete n) gave.scanned)
+          gave.at_is gave.routes_are (let within = gave.within in omega (arith, within, stands.used))
 
       -- the tries ran out
-      pub ends_cut : RanOut model takes_less limit routes tours at now → (judged : Tours → Type 0) → HasCommitted model judged tours → (stated : Report) → stated ≡ report_of now Tries → HasEnded after model limit whole from tours old later stated tours
+      pub ends_cut : RanOut model takes_less limit routes tours at now → (judged : Tours → Type 0) → HasCommitted model judged tours
+          → (stated : Report) → stated ≡ report_of now Tries → HasEnded after model limit whole from tours old later stated tours
       ends_cut gave =
           let all : at.used + (limit.tries - at.used) ≡ limit.tries = omega (arith, stands.used) in
-          ends_at later tours now limit.tries Tries (goes_as after whole _ _ old later (ap (λ k. ended (standing model limit routes.lists k at.found) Tries) all) (after_scan cut gave.scanned)) gave.at_is gave.routes_are (omega arith)
+          ends_at later tours now limit.tries Tries
+          (goes_as after whole _ _ old later (ap (λ k. ended (standing model limit routes.lists k at.found) Tries) all) (after_scan cut gave.scanned))
+          gave.at_is gave.routes_are (omega arith)

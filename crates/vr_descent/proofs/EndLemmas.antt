@@ -38,9 +38,11 @@ module _ (model : Model) (takes : List (List ℕ) → Move → ℤ → Bool) (li
   scanned_as s = scan (moves model lists) (is_acceptable model takes lists) rest ≡ s
 
   ends_as : (s : Scan) → scanned_as s → EndsAs (moves model lists) (is_acceptable model takes lists) rest s
-  ends_as s e = subst (λ x. EndsAs (moves model lists) (is_acceptable model takes lists) rest x) e (scan_ends (moves model lists) (is_acceptable model takes lists) rest)
+  ends_as s e =
+      subst (λ x. EndsAs (moves model lists) (is_acceptable model takes lists) rest x) e (scan_ends (moves model lists) (is_acceptable model takes lists) rest)
 
-  of_accepted : (s : Scan) (place : ℕ) (mv : Move) (change : ℤ) → Accepted place mv change ≡ scan_end model lists s → (s ≡ accepted place mv) × (change ≡ cost_change model lists mv)
+  of_accepted : (s : Scan) (place : ℕ) (mv : Move) (change : ℤ) → Accepted place mv change ≡ scan_end model lists s
+      → (s ≡ accepted place mv) × (change ≡ cost_change model lists mv)
   of_accepted (accepted k m) place mv change e = (Prim.cc, Prim.cc)
   of_accepted (complete n) place mv change e = absurd (no e)
     where
@@ -53,21 +55,31 @@ module _ (model : Model) (takes : List (List ℕ) → Move → ℤ → Bool) (li
 
   -- what is known where the scan accepted a move
   pub accepted_where : (place : ℕ) (mv : Move) → scanned_as (accepted place mv) → AcceptedAt model takes lists rest place mv (cost_change model lists mv)
-  accepted_where place mv e = let ends = ends_as (accepted place mv) e in let first = ends.0 in let two = both (is_valid model (apply model lists mv)) (takes lists mv (cost_change model lists mv)) first.acceptable_there in record {
-    scanned = e;
-    changes = refl;
-    from_one = first.from_one;
-    within = ends.1;
-    is_one = one_move model model.search.neighbourhoods lists mv (of_contains (moves model lists) mv (place - 1, (let low = first.from_one in let in_list = first.in_list in omega (arith, low, in_list)), first.stands_there mv));
-    valid = two.0;
-    takes_it = two.1;
-  }
+  accepted_where place mv e =
+      let ends = ends_as (accepted place mv) e in
+      let first = ends.0 in
+      let two = both (is_valid model (apply model lists mv)) (takes lists mv (cost_change model lists mv)) first.acceptable_there in
+      record {
+        scanned = e;
+        changes = refl;
+        from_one = first.from_one;
+        within = ends.1;
+        is_one = one_move model model.search.neighbourhoods lists
+            mv (of_contains (moves model lists) mv
+            (place - 1, (let low = first.from_one in let in_list = first.in_list in omega (arith, low, in_list)), first.stands_there mv));
+        valid = two.0;
+        takes_it = two.1;
+      }
 
-  pub accepted_at : (place : ℕ) (mv : Move) (change : ℤ) → Accepted place mv change ≡ scan_end model lists (scan (moves model lists) (is_acceptable model takes lists) rest) → AcceptedAt model takes lists rest place mv change
+  pub accepted_at : (place : ℕ) (mv : Move) (change : ℤ)
+      → Accepted place mv change ≡ scan_end model lists (scan (moves model lists) (is_acceptable model takes lists) rest)
+      → AcceptedAt model takes lists rest place mv change
   accepted_at place mv change e = go (of_accepted (scan (moves model lists) (is_acceptable model takes lists) rest) place mv change e)
     where
       go : scanned_as (accepted place mv) × (change ≡ cost_change model lists mv) → AcceptedAt model takes lists rest place mv change
-      go h = let w = accepted_where place mv h.0 in record { scanned = w.scanned; changes = h.1; from_one = w.from_one; within = w.within; is_one = w.is_one; valid = w.valid; takes_it = w.takes_it }
+      go h =
+          let w = accepted_where place mv h.0 in
+          record { scanned = w.scanned; changes = h.1; from_one = w.from_one; within = w.within; is_one = w.is_one; valid = w.valid; takes_it = w.takes_it }
 
   of_complete : (s : Scan) (n : ℕ) → Complete n ≡ scan_end model lists s → s ≡ complete n
   of_complete (accepted k m) n e = absurd (no e)
@@ -85,7 +97,8 @@ module _ (model : Model) (takes : List (List ℕ) → Move → ℤ → Bool) (li
   completed_where n h = (ends_as (complete n) h).2
 
   -- no move is acceptable, and there are so many
-  pub completed : (n : ℕ) → Complete n ≡ scan_end model lists (scan (moves model lists) (is_acceptable model takes lists) rest) → scanned_as (complete n) × (n ≤ rest)
+  pub completed : (n : ℕ) → Complete n ≡ scan_end model lists (scan (moves model lists) (is_acceptable model takes lists) rest)
+      → scanned_as (complete n) × (n ≤ rest)
   completed n e = go (of_complete (scan (moves model lists) (is_acceptable model takes lists) rest) n e)
     where
       go : scanned_as (complete n) → scanned_as (complete n) × (n ≤ rest)

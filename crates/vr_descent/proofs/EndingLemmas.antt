@@ -19,7 +19,8 @@ use Rattle.vr_descent.specs.declared.progress.Progress.{Progress}
 use Rattle.vr_descent.proofs.GoingOn.{Goes, ends_within, goes_to_end}
 
 -- a search that has come to its end has stopped there
-pub stops : {W : Type 0} (after : W → List Event → List ℕ) (left : Outcome) (lists : List (List ℕ)) (at : Progress) (best : Incumbent) (old new : List W) (stop : End)
+pub stops : {W : Type 0} (after : W → List Event → List ℕ) (left : Outcome)
+    (lists : List (List ℕ)) (at : Progress) (best : Incumbent) (old new : List W) (stop : End)
     → Goes after left (ended (standing lists best.routes.lists at.used at.found) stop) old new → HasStopped after left lists at best old new stop
 stops after left lists at best old new stop goes = record {
   outcome = ap (outcome_of lists at best stop) (ap (λ o. o.events) goes.outcome) ∙ sym goes.outcome;
@@ -27,7 +28,8 @@ stops after left lists at best old new stop goes = record {
 }
 
 -- a search has ended where what was left of it has, behind what was told before
-pub has_ended : {W : Type 0} (after : W → List Event → List ℕ) (model : Model) (limit : Limit) (whole left : Outcome) (from to : Tours) (a b c : List W) (at : Progress) (first best : Incumbent) (held judged : Tours → Type 0) (stop : End) (stated : Report)
+pub has_ended : {W : Type 0} (after : W → List Event → List ℕ) (model : Model) (limit : Limit) (whole left : Outcome) (from to : Tours)
+    (a b c : List W) (at : Progress) (first best : Incumbent) (held judged : Tours → Type 0) (stop : End) (stated : Report)
     → Goes after whole left a b → HasStopped after left to.lists at best b c stop → HasCommitted model held from → IsUnderWay model limit judged to at best
     → first.cost ≡ cost model from.lists → best.cost ≤ℤ first.cost → stated ≡ report_of at stop
     → HasEnded after model limit whole from to a c stated best.routes

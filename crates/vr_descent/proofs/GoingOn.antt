@@ -16,7 +16,8 @@ pub record Goes {W : Type 0} (after : W → List Event → List ℕ) (whole rest
 
 module _ {W : Type 0} (after : W → List Event → List ℕ) (whole : Outcome) where
   -- the next events are told
-  pub goes_more : (rest : Outcome) (events : List Event) (a b c : List W) → Goes after whole (behind events rest) a b → Reported after b c events → Goes after whole rest a c
+  pub goes_more : (rest : Outcome) (events : List Event) (a b c : List W)
+      → Goes after whole (behind events rest) a b → Reported after b c events → Goes after whole rest a c
   goes_more rest events a b c g t = record {
     told = g.told ++ events;
     outcome = g.outcome ∙ ap (λ es. record rest { events = es }) (sym (append_assoc g.told events rest.events));
@@ -28,8 +29,10 @@ module _ {W : Type 0} (after : W → List Event → List ℕ) (whole : Outcome) 
   goes_to_end state stop a b g = subst (λ es. Reported after a b es) (sym (ap (λ o. o.events) g.outcome ∙ append-nil g.told)) g.heard
 
   -- the search breaks off where it tells the next events
-  pub breaks_off : (rest : Outcome) (events : List Event) (a b c : List W) → Goes after whole (behind events rest) a b → ReportedInPart after b c events → ReportedInPart after a c whole.events
-  breaks_off rest events a b c g p = subst (λ es. ReportedInPart after a c es) (sym (ap (λ o. o.events) g.outcome)) (in_part_behind after a b c g.told events rest.events g.heard p)
+  pub breaks_off : (rest : Outcome) (events : List Event) (a b c : List W) → Goes after whole (behind events rest) a b
+      → ReportedInPart after b c events → ReportedInPart after a c whole.events
+  breaks_off rest events a b c g p =
+      subst (λ es. ReportedInPart after a c es) (sym (ap (λ o. o.events) g.outcome)) (in_part_behind after a b c g.told events rest.events g.heard p)
 
   -- the search breaks off where it stands
   pub goes_nowhere : (rest : Outcome) (a b : List W) → Goes after whole rest a b → ReportedInPart after a b whole.events
@@ -40,8 +43,10 @@ module _ {W : Type 0} (after : W → List Event → List ℕ) (whole : Outcome) 
   ends_within rest a b c g t = subst (λ es. Reported after a c es) (sym (ap (λ o. o.events) g.outcome)) (told_both after a b c g.told rest.events g.heard t)
 
   -- what is left was told in part
-  pub breaks_within : (rest : Outcome) (a b c : List W) → Goes after whole rest a b → ReportedInPart after b c rest.events → ReportedInPart after a c whole.events
-  breaks_within rest a b c g p = subst (λ es. ReportedInPart after a c es) (ap (λ es. g.told ++ es) (append-nil rest.events) ∙ sym (ap (λ o. o.events) g.outcome)) (in_part_behind after a b c g.told rest.events [] g.heard p)
+  pub breaks_within : (rest : Outcome) (a b c : List W) → Goes after whole rest a b
+      → ReportedInPart after b c rest.events → ReportedInPart after a c whole.events
+  breaks_within rest a b c g p = subst (λ es. ReportedInPart after a c es)
+      (ap (λ es. g.told ++ es) (append-nil rest.events) ∙ sym (ap (λ o. o.events) g.outcome)) (in_part_behind after a b c g.told rest.events [] g.heard p)
 
   -- the same outcome
   pub goes_as : (rest other : Outcome) (a b : List W) → rest ≡ other → Goes after whole rest a b → Goes after whole other a b

@@ -17,7 +17,8 @@ module _ (model : Model) (lists : List (List ℕ)) where
   first_more n ns = refl
 
   -- the neighbourhood in hand has no move left, and the next one is taken in hand
-  pub taken_in_hand : (left hand : List Move) (n : Neighbourhood) (all others : List Neighbourhood) → left ≡ [] → all ≡ n ∷ others → hand ≡ moves_in model lists n
+  pub taken_in_hand : (left hand : List Move) (n : Neighbourhood) (all others : List Neighbourhood)
+      → left ≡ [] → all ≡ n ∷ others → hand ≡ moves_in model lists n
       → left ++ moves_over model all lists ≡ hand ++ moves_over model others lists
   taken_in_hand left hand n all others none split opened =
       ap₂ (λ xs ns. xs ++ moves_over model ns lists) none split ∙ (first_more n others ∙ ap (λ xs. xs ++ moves_over model others lists) (sym opened))

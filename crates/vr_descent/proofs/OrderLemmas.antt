@@ -1,5 +1,6 @@
 -- Which moves stand in front of a move in the list of all moves.
-use Rattle.std.proofs.Common.{◌≡◌, ◌≢◌, ◌∙◌, ℕ, zero, suc, ◌+◌, ◌<◌, ◌≤◌, Bool, true, false, cond, List, [], ◌∷◌, ◌++◌, length, map, refl, sym, ap, subst, arith, inl, inr, ◌⊎◌, append_assoc}
+use Rattle.std.proofs.Common.{◌≡◌, ◌≢◌, ◌∙◌, ℕ, zero, suc, ◌+◌, ◌<◌, ◌≤◌, Bool, true, false, cond, List, [], ◌∷◌, ◌++◌, length, map, refl, sym, ap, subst}
+use Rattle.std.proofs.Common.{arith, inl, inr, ◌⊎◌, append_assoc}
 use Rattle.std.specs.Prelude.{IsTrue, ◌-◌, filter, ◌==◌, ◌&&◌, ◌||◌, nat_lt}
 use Rattle.std.specs.List.{range_with_len}
 use Rattle.std.proofs.lemmas.Bool.{cases_Bool}
@@ -7,11 +8,13 @@ use Rattle.vr_model.specs.deciding.Testing.{and_left, and_right, or_cases}
 use Rattle.vr_model.specs.tables.Numbers.{below, from_to, each}
 use Rattle.vr_model.specs.tables.Tables.{pair_at}
 use Rattle.vr_model.specs.routes.Routes.{route, vehicles, inactive}
-use Rattle.vr_model.specs.moves.Moves.{places, gaps, gaps_from, pairs, places_behind, without_pair, is_pair_served, is_pair_together, is_pair_inactive, has_chain, is_other, has_some_front, changes_the_list, moves_in, moves_over, all_neighbourhoods}
+use Rattle.vr_model.specs.moves.Moves.{places, gaps, gaps_from, pairs, places_behind, without_pair, is_pair_served, is_pair_together, is_pair_inactive}
+use Rattle.vr_model.specs.moves.Moves.{has_chain, is_other, has_some_front, changes_the_list, moves_in, moves_over, all_neighbourhoods}
 use Rattle.vr_model.specs.moves.MoveTests.{is_move}
 use Rattle.vr_model.specs.declared.records.Model.{Model}
 use Rattle.vr_model.specs.declared.neighbours.Move.{Move}
-use Rattle.vr_model.specs.declared.neighbours.Move.TheVariants.{TwoOpt, OrOpt, Relocate, Exchange, Cross, RelocatePair, PairActive, PairInactive, MakeActive, MakeInactive, SwapActive}
+use Rattle.vr_model.specs.declared.neighbours.Move.TheVariants.{TwoOpt, OrOpt, Relocate, Exchange, Cross, RelocatePair, PairActive, PairInactive, MakeActive}
+use Rattle.vr_model.specs.declared.neighbours.Move.TheVariants.{MakeInactive, SwapActive}
 use Rattle.vr_model.specs.declared.neighbours.Neighbourhood.{Neighbourhood}
 use Rattle.vr_model.specs.declared.neighbours.Neighbourhood.TheVariants as all
 use Rattle.vr_model.proofs.tables.Members.{In, of_contains, of_range, from_each, from_map}
@@ -65,7 +68,8 @@ each_filter : (p : ℕ → Bool) (f : ℕ → List Move) (xs : List ℕ) → eac
 each_filter p f [] = refl
 each_filter p f (x ∷ xs) = by (p x) (each_filter p f xs)
   where
-    by : (b : Bool) → each (filter p xs) f ≡ each xs (λ v. cond (p v) (f v) []) → each (cond b (x ∷ filter p xs) (filter p xs)) f ≡ cond b (f x) [] ++ each xs (λ v. cond (p v) (f v) [])
+    by : (b : Bool) → each (filter p xs) f ≡ each xs (λ v. cond (p v) (f v) [])
+        → each (cond b (x ∷ filter p xs) (filter p xs)) f ≡ cond b (f x) [] ++ each xs (λ v. cond (p v) (f v) [])
     by true same = ap (λ l. f x ++ l) same
     by false same = same
 
@@ -74,7 +78,8 @@ map_filter : (p : ℕ → Bool) (f : ℕ → Move) (xs : List ℕ) → map f (fi
 map_filter p f [] = refl
 map_filter p f (x ∷ xs) = by (p x) (map_filter p f xs)
   where
-    by : (b : Bool) → map f (filter p xs) ≡ each xs (λ v. cond (p v) (f v ∷ []) []) → map f (cond b (x ∷ filter p xs) (filter p xs)) ≡ cond b (f x ∷ []) [] ++ each xs (λ v. cond (p v) (f v ∷ []) [])
+    by : (b : Bool) → map f (filter p xs) ≡ each xs (λ v. cond (p v) (f v ∷ []) [])
+        → map f (cond b (x ∷ filter p xs) (filter p xs)) ≡ cond b (f x ∷ []) [] ++ each xs (λ v. cond (p v) (f v ∷ []) [])
     by true same = ap (λ l. f x ∷ l) same
     by false same = same
 
@@ -98,7 +103,8 @@ module _ (model : Model) (lists : List (List ℕ)) where
   OfKind n = (mv : Move) → In (moves_in model lists n) mv → kind_of mv ≡ n
 
   kind_two_opt : OfKind all.TwoOpt
-  kind_two_opt mv h = from_each _ (vehicles lists) mv h λ v _ h2. from_each _ (places (route lists v)) mv h2 λ a _ h3. from_map (TwoOpt v a) (from_to (suc a) (length (route lists v))) mv h3 λ b _ e. ap kind_of e
+  kind_two_opt mv h = from_each _ (vehicles lists) mv h λ v _ h2. from_each _ (places (route lists v)) mv
+      h2 λ a _ h3. from_map (TwoOpt v a) (from_to (suc a) (length (route lists v))) mv h3 λ b _ e. ap kind_of e
 
   kind_or_opt : OfKind all.OrOpt
   kind_or_opt mv h = from_each _ (vehicles lists) mv h λ v _ h2. from_each _ (places (route lists v)) mv h2 λ a _ h3.
@@ -107,7 +113,8 @@ module _ (model : Model) (lists : List (List ℕ)) where
 
   kind_relocate : OfKind all.Relocate
   kind_relocate mv h = from_each _ (vehicles lists) mv h λ v _ h2. from_each _ (places (route lists v)) mv h2 λ a _ h3.
-      from_each (λ w. map (Relocate v a w) (gaps (route lists w))) (filter (is_other v) (vehicles lists)) mv h3 λ w _ h4. from_map (Relocate v a w) (gaps (route lists w)) mv h4 λ t _ e. ap kind_of e
+      from_each (λ w. map (Relocate v a w) (gaps (route lists w))) (filter (is_other v) (vehicles lists))
+      mv h3 λ w _ h4. from_map (Relocate v a w) (gaps (route lists w)) mv h4 λ t _ e. ap kind_of e
 
   kind_exchange : OfKind all.Exchange
   kind_exchange mv h = from_each _ (vehicles lists) mv h λ v _ h2. from_each _ (places (route lists v)) mv h2 λ a _ h3.
@@ -115,12 +122,15 @@ module _ (model : Model) (lists : List (List ℕ)) where
 
   kind_cross : OfKind all.Cross
   kind_cross mv h = from_each _ (vehicles lists) mv h λ v _ h2. from_each _ (gaps (route lists v)) mv h2 λ a _ h3.
-      from_each _ (from_to (suc v) (length lists)) mv h3 λ w _ h4. from_map (Cross v a w) (filter (has_some_front a) (gaps (route lists w))) mv h4 λ b _ e. ap kind_of e
+      from_each _ (from_to (suc v) (length lists)) mv h3
+      λ w _ h4. from_map (Cross v a w) (filter (has_some_front a) (gaps (route lists w))) mv h4 λ b _ e. ap kind_of e
 
   kind_relocate_pair : OfKind all.RelocatePair
   kind_relocate_pair mv h = from_each _ (filter (is_pair_served model lists) (pairs model)) mv h λ p _ h2. from_each _ (vehicles lists) mv h2 λ w _ h3.
       from_each _ (gaps (without_pair (pair_at model p) (route lists w))) mv h3 λ s _ h4.
-      from_map (RelocatePair p w s) (filter (changes_the_list (pair_at model p) (route lists w) (without_pair (pair_at model p) (route lists w)) s) (gaps_from (without_pair (pair_at model p) (route lists w)) s)) mv h4 λ t _ e. ap kind_of e
+      from_map (RelocatePair p w s)
+      (filter (changes_the_list (pair_at model p) (route lists w) (without_pair (pair_at model p) (route lists w)) s)
+      (gaps_from (without_pair (pair_at model p) (route lists w)) s)) mv h4 λ t _ e. ap kind_of e
 
   kind_pair_active : OfKind all.PairActive
   kind_pair_active mv h = from_each _ (filter (is_pair_inactive model lists) (pairs model)) mv h λ p _ h2. from_each _ (vehicles lists) mv h2 λ w _ h3.
@@ -130,13 +140,15 @@ module _ (model : Model) (lists : List (List ℕ)) where
   kind_pair_inactive mv h = from_map PairInactive (filter (is_pair_together model lists) (pairs model)) mv h λ p _ e. ap kind_of e
 
   kind_make_active : OfKind all.MakeActive
-  kind_make_active mv h = from_each _ (inactive model lists) mv h λ u _ h2. from_each (λ w. map (MakeActive u w) (gaps (route lists w))) (vehicles lists) mv h2 λ w _ h3. from_map (MakeActive u w) (gaps (route lists w)) mv h3 λ t _ e. ap kind_of e
+  kind_make_active mv h = from_each _ (inactive model lists) mv h λ u _ h2. from_each (λ w. map (MakeActive u w) (gaps (route lists w)))
+      (vehicles lists) mv h2 λ w _ h3. from_map (MakeActive u w) (gaps (route lists w)) mv h3 λ t _ e. ap kind_of e
 
   kind_make_inactive : OfKind all.MakeInactive
   kind_make_inactive mv h = from_each _ (vehicles lists) mv h λ v _ h2. from_map (MakeInactive v) (places (route lists v)) mv h2 λ a _ e. ap kind_of e
 
   kind_swap_active : OfKind all.SwapActive
-  kind_swap_active mv h = from_each _ (vehicles lists) mv h λ v _ h2. from_each _ (places (route lists v)) mv h2 λ a _ h3. from_map (SwapActive v a) (inactive model lists) mv h3 λ u _ e. ap kind_of e
+  kind_swap_active mv h = from_each _ (vehicles lists) mv h
+      λ v _ h2. from_each _ (places (route lists v)) mv h2 λ a _ h3. from_map (SwapActive v a) (inactive model lists) mv h3 λ u _ e. ap kind_of e
 
   of_kind : (n : Neighbourhood) → OfKind n
   of_kind all.TwoOpt = kind_two_opt
@@ -154,14 +166,17 @@ module _ (model : Model) (lists : List (List ℕ)) where
   -- a move of the lists is one of the neighbourhood of its kind
   one_of : (mv : Move) → IsTrue (is_move model lists mv) → (n : Neighbourhood) → n ≡ kind_of mv → In (moves_in model lists n) mv
   unfolding moves_over
-  one_of mv h n same = from_each (moves_in model lists) all_neighbourhoods mv (of_contains (moves_over model all_neighbourhoods lists) mv ((moves_as_tested model lists mv).1 h)) λ o _ there.
+  one_of mv h n same = from_each (moves_in model lists) all_neighbourhoods mv
+      (of_contains (moves_over model all_neighbourhoods lists) mv ((moves_as_tested model lists mv).1 h)) λ o _ there.
       subst (λ k. In (moves_in model lists k) mv) (sym (of_kind o mv there) ∙ sym same) there
 
   -- ---- vehicles
 
   -- the moves of a range of vehicles, each of which is the first that its moves name
-  low_first : (f : ℕ → List Move) → ((v : ℕ) (m : Move) → In (f v) m → first_of m ≡ v) → (a n : ℕ) (m : Move) → In (each (range_with_len a n) f) m → a ≤ first_of m
-  low_first f firsts a n m h = from_each f (range_with_len a n) m h λ v hv there. (let r = of_range a n v hv in let low = r.0 in let e = firsts v m there in omega (arith, low, e))
+  low_first : (f : ℕ → List Move) → ((v : ℕ) (m : Move) → In (f v) m → first_of m ≡ v)
+      → (a n : ℕ) (m : Move) → In (each (range_with_len a n) f) m → a ≤ first_of m
+  low_first f firsts a n m h =
+      from_each f (range_with_len a n) m h λ v hv there. (let r = of_range a n v hv in let low = r.0 in let e = firsts v m there in omega (arith, low, e))
 
   before_rows : (f : ℕ → List Move) → ((v : ℕ) (m : Move) → In (f v) m → first_of m ≡ v) → (a n : ℕ) (ys before : List Move) (mv : Move) (after : List Move)
       → each (range_with_len a n) f ++ ys ≡ before ++ mv ∷ after → (m : Move) → In (each (range_with_len a n) f) m → first_of m < first_of mv → In before m
@@ -178,35 +193,49 @@ module _ (model : Model) (lists : List (List ℕ)) where
   -- the moves of a pair, and none where it is not served
   abbrev moves_of_pair : ℕ → List Move
   moves_of_pair p = each (vehicles lists) λ w. each (gaps (without_pair (pair_at model p) (route lists w))) λ s.
-      map (RelocatePair p w s) (filter (changes_the_list (pair_at model p) (route lists w) (without_pair (pair_at model p) (route lists w)) s) (gaps_from (without_pair (pair_at model p) (route lists w)) s))
+      map (RelocatePair p w s)
+      (filter (changes_the_list (pair_at model p) (route lists w) (without_pair (pair_at model p) (route lists w)) s)
+      (gaps_from (without_pair (pair_at model p) (route lists w)) s))
 
   abbrev moves_where_served : ℕ → List Move
   moves_where_served p = cond (is_pair_served model lists p) (moves_of_pair p) []
 
   first_two_opt : (v : ℕ) (mv : Move) → In (each (places (route lists v)) λ a. map (TwoOpt v a) (from_to (suc a) (length (route lists v)))) mv → first_of mv ≡ v
-  first_two_opt v mv h2 = from_each _ (places (route lists v)) mv h2 λ a _ h3. from_map (TwoOpt v a) (from_to (suc a) (length (route lists v))) mv h3 λ b _ e. ap first_of e
+  first_two_opt v mv h2 =
+      from_each _ (places (route lists v)) mv h2 λ a _ h3. from_map (TwoOpt v a) (from_to (suc a) (length (route lists v))) mv h3 λ b _ e. ap first_of e
 
-  first_or_opt : (v : ℕ) (mv : Move) → In (each (places (route lists v)) λ a. each (filter (has_chain (route lists v) a) (from_to 1 4)) λ k. map (OrOpt v a k) (filter (is_other a) (below (suc (length (route lists v) - k))))) mv → first_of mv ≡ v
+  first_or_opt : (v : ℕ) (mv : Move) → In (each (places (route lists v))
+      λ a. each (filter (has_chain (route lists v) a) (from_to 1 4)) λ k. map (OrOpt v a k) (filter (is_other a) (below (suc (length (route lists v) - k))))) mv
+      → first_of mv ≡ v
   first_or_opt v mv h2 = from_each _ (places (route lists v)) mv h2 λ a _ h3.
       from_each _ (filter (has_chain (route lists v) a) (from_to 1 4)) mv h3 λ k _ h4.
       from_map (OrOpt v a k) (filter (is_other a) (below (suc (length (route lists v) - k)))) mv h4 λ t _ e. ap first_of e
 
-  first_relocate : (v : ℕ) (mv : Move) → In (each (places (route lists v)) λ a. each (filter (is_other v) (vehicles lists)) λ w. map (Relocate v a w) (gaps (route lists w))) mv → first_of mv ≡ v
+  first_relocate : (v : ℕ) (mv : Move)
+      → In (each (places (route lists v)) λ a. each (filter (is_other v) (vehicles lists)) λ w. map (Relocate v a w) (gaps (route lists w))) mv
+      → first_of mv ≡ v
   first_relocate v mv h2 = from_each _ (places (route lists v)) mv h2 λ a _ h3.
-      from_each (λ w. map (Relocate v a w) (gaps (route lists w))) (filter (is_other v) (vehicles lists)) mv h3 λ w _ h4. from_map (Relocate v a w) (gaps (route lists w)) mv h4 λ t _ e. ap first_of e
+      from_each (λ w. map (Relocate v a w) (gaps (route lists w))) (filter (is_other v) (vehicles lists))
+      mv h3 λ w _ h4. from_map (Relocate v a w) (gaps (route lists w)) mv h4 λ t _ e. ap first_of e
 
-  first_exchange : (v : ℕ) (mv : Move) → In (each (places (route lists v)) λ a. each (from_to v (length lists)) λ w. map (Exchange v a w) (places_behind lists v a w)) mv → first_of mv ≡ v
+  first_exchange : (v : ℕ) (mv : Move)
+      → In (each (places (route lists v)) λ a. each (from_to v (length lists)) λ w. map (Exchange v a w) (places_behind lists v a w)) mv → first_of mv ≡ v
   first_exchange v mv h2 = from_each _ (places (route lists v)) mv h2 λ a _ h3.
       from_each _ (from_to v (length lists)) mv h3 λ w _ h4. from_map (Exchange v a w) (places_behind lists v a w) mv h4 λ b _ e. ap first_of e
 
-  first_cross : (v : ℕ) (mv : Move) → In (each (gaps (route lists v)) λ a. each (from_to (suc v) (length lists)) λ w. map (Cross v a w) (filter (has_some_front a) (gaps (route lists w)))) mv → first_of mv ≡ v
+  first_cross : (v : ℕ) (mv : Move)
+      → In (each (gaps (route lists v)) λ a. each (from_to (suc v) (length lists)) λ w. map (Cross v a w) (filter (has_some_front a) (gaps (route lists w)))) mv
+      → first_of mv ≡ v
   first_cross v mv h2 = from_each _ (gaps (route lists v)) mv h2 λ a _ h3.
-      from_each _ (from_to (suc v) (length lists)) mv h3 λ w _ h4. from_map (Cross v a w) (filter (has_some_front a) (gaps (route lists w))) mv h4 λ b _ e. ap first_of e
+      from_each _ (from_to (suc v) (length lists)) mv h3
+      λ w _ h4. from_map (Cross v a w) (filter (has_some_front a) (gaps (route lists w))) mv h4 λ b _ e. ap first_of e
 
   first_relocate_pair : (p : ℕ) (mv : Move) → In (moves_of_pair p) mv → first_of mv ≡ p
   first_relocate_pair p mv h2 = from_each _ (vehicles lists) mv h2 λ w _ h3.
       from_each _ (gaps (without_pair (pair_at model p) (route lists w))) mv h3 λ s _ h4.
-      from_map (RelocatePair p w s) (filter (changes_the_list (pair_at model p) (route lists w) (without_pair (pair_at model p) (route lists w)) s) (gaps_from (without_pair (pair_at model p) (route lists w)) s)) mv h4 λ t _ e. ap first_of e
+      from_map (RelocatePair p w s)
+      (filter (changes_the_list (pair_at model p) (route lists w) (without_pair (pair_at model p) (route lists w)) s)
+      (gaps_from (without_pair (pair_at model p) (route lists w)) s)) mv h4 λ t _ e. ap first_of e
 
   first_where : (p : ℕ) (mv : Move) → In (moves_where_served p) mv → first_of mv ≡ p
   first_where p mv h = by (is_pair_served model lists p) h
@@ -228,7 +257,8 @@ module _ (model : Model) (lists : List (List ℕ)) where
       by false there = absurd there
 
   -- in a neighbourhood the moves of a row stand in front of those of the next
-  before_kind : (n : Neighbourhood) (ys before : List Move) (mv : Move) (after : List Move) → n ≡ kind_of mv → moves_in model lists n ++ ys ≡ before ++ mv ∷ after
+  before_kind : (n : Neighbourhood) (ys before : List Move) (mv : Move) (after : List Move)
+      → n ≡ kind_of mv → moves_in model lists n ++ ys ≡ before ++ mv ∷ after
       → (m : Move) → In (moves_in model lists n) m → first_of m < first_of mv → In before m
   before_kind all.TwoOpt ys before mv after same e m h low = before_rows _ first_two_opt 0 (length lists) ys before mv after e m h low
   before_kind all.OrOpt ys before mv after same e m h low = before_rows _ first_or_opt 0 (length lists) ys before mv after e m h low
@@ -237,11 +267,13 @@ module _ (model : Model) (lists : List (List ℕ)) where
   before_kind all.Cross ys before mv after same e m h low = before_rows _ first_cross 0 (length lists) ys before mv after e m h low
   before_kind all.RelocatePair ys before mv after same e m h low =
       let as_rows = each_filter (is_pair_served model lists) moves_of_pair (pairs model) in
-      before_rows moves_where_served first_where 0 (length model.pairs) ys before mv after (ap (λ l. l ++ ys) (sym as_rows) ∙ e) m (subst (λ l. In l m) as_rows h) low
+      before_rows moves_where_served first_where 0 (length model.pairs) ys before mv
+      after (ap (λ l. l ++ ys) (sym as_rows) ∙ e) m (subst (λ l. In l m) as_rows h) low
   before_kind all.PairActive ys before mv after same e m h low = let none = one_row mv (ap owner (sym same)) in absurd (omega (arith, none, low))
   before_kind all.PairInactive ys before mv after same e m h low =
       let as_rows = map_filter (is_pair_together model lists) PairInactive (pairs model) in
-      before_rows moves_where_together first_together 0 (length model.pairs) ys before mv after (ap (λ l. l ++ ys) (sym as_rows) ∙ e) m (subst (λ l. In l m) as_rows h) low
+      before_rows moves_where_together first_together 0 (length model.pairs) ys before mv
+      after (ap (λ l. l ++ ys) (sym as_rows) ∙ e) m (subst (λ l. In l m) as_rows h) low
   before_kind all.MakeActive ys before mv after same e m h low = let none = one_row mv (ap owner (sym same)) in absurd (omega (arith, none, low))
   before_kind all.MakeInactive ys before mv after same e m h low = let none = one_row mv (ap owner (sym same)) in absurd (omega (arith, none, low))
   before_kind all.SwapActive ys before mv after same e m h low = let none = one_row mv (ap owner (sym same)) in absurd (omega (arith, none, low))
@@ -258,13 +290,15 @@ module _ (model : Model) (lists : List (List ℕ)) where
     | inl is ↦ (
         let same : n ≡ kind_of mv = same_kind n (kind_of mv) is in
         let here : IsTrue (is_same_kind (kind_of m) (kind_of mv) && nat_lt (first_of m) (first_of mv)) =
-        sym (ap (λ b. cond b (is_same_kind (kind_of m) (kind_of mv) && nat_lt (first_of m) (first_of mv)) (is_same_kind (kind_of m) n || is_behind ns (kind_of m) (first_of m) mv)) is) ∙ h in
+        sym (ap (λ b. cond b (is_same_kind (kind_of m) (kind_of mv) && nat_lt (first_of m) (first_of mv))
+        (is_same_kind (kind_of m) n || is_behind ns (kind_of m) (first_of m) mv)) is) ∙ h in
         let alike : kind_of m ≡ kind_of mv = same_kind (kind_of m) (kind_of mv) (and_left (is_same_kind (kind_of m) (kind_of mv)) _ here) in
         before_kind n (moves_over model ns lists) before mv after same (sym (over_more n ns) ∙ e) m (one_of m one n (same ∙ sym alike))
         (lt_of_test (first_of m) (first_of mv) (and_right (is_same_kind (kind_of m) (kind_of mv)) _ here)))
     | inr other ↦ (
         let later : IsTrue (is_same_kind (kind_of m) n || is_behind ns (kind_of m) (first_of m) mv) =
-        sym (ap (λ b. cond b (is_same_kind (kind_of m) (kind_of mv) && nat_lt (first_of m) (first_of mv)) (is_same_kind (kind_of m) n || is_behind ns (kind_of m) (first_of m) mv)) other) ∙ h in
+        sym (ap (λ b. cond b (is_same_kind (kind_of m) (kind_of mv) && nat_lt (first_of m) (first_of mv))
+        (is_same_kind (kind_of m) n || is_behind ns (kind_of m) (first_of m) mv)) other) ∙ h in
         let r = begins (moves_in model lists n) (moves_over model ns lists) before mv after (sym (over_more n ns) ∙ e)
         (λ there. clash (is_same_kind n (kind_of mv)) (same_test n (kind_of mv) (sym (of_kind n mv there))) other) in
         subst (λ l. In l m) (sym r.before_is) (elim (or_cases (is_same_kind (kind_of m) n) _ later) [

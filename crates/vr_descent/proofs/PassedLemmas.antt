@@ -1,5 +1,6 @@
 -- A scan over moves that are passed over, and what stands in front of the move that a scan accepts.
-use Rattle.std.proofs.Common.{◌≡◌, ◌∙◌, ℕ, suc, ◌+◌, ◌-◌, ◌<◌, ◌≤◌, ◌^◌, Bool, true, false, cond, List, [], ◌∷◌, ◌++◌, length, refl, sym, ap, subst, arith, nat_lt, nat_le, inl, inr}
+use Rattle.std.proofs.Common.{◌≡◌, ◌∙◌, ℕ, suc, ◌+◌, ◌-◌, ◌<◌, ◌≤◌, ◌^◌, Bool, true, false, cond, List, [], ◌∷◌, ◌++◌, length, refl, sym, ap, subst, arith}
+use Rattle.std.proofs.Common.{nat_lt, nat_le, inl, inr}
 use Rattle.std.specs.Prelude.{All}
 use Rattle.std.specs.List.{list_all}
 use Rattle.std.proofs.lemmas.List.Elements.{All-head, All-tail}
@@ -28,7 +29,8 @@ at_or_behind rest place counted n counts fits low = Prim.grind arith
 
 module _ (acceptable : Move → Bool) (rest : ℕ) where
   -- moves that are not acceptable are tries alone
-  pub over : (place : ℕ) (ps ms : List Move) → ((m : Move) → In ps m → acceptable m ≡ false) → scan_from place acceptable rest (ps ++ ms) ≡ scan_from (place + length ps) acceptable rest ms
+  pub over : (place : ℕ) (ps ms : List Move) → ((m : Move) → In ps m → acceptable m ≡ false)
+      → scan_from place acceptable rest (ps ++ ms) ≡ scan_from (place + length ps) acceptable rest ms
   over place [] ms none = let e : place ≡ place + 0 = omega arith in ap (λ k. scan_from k acceptable rest ms) e
   over place (p ∷ ps) ms none =
       let e : suc place + length ps ≡ place + suc (length ps) = omega arith in
@@ -36,13 +38,15 @@ module _ (acceptable : Move → Bool) (rest : ℕ) where
       ∙ over (suc place) ps ms (λ m h. none m (inr h)) ∙ ap (λ k. scan_from k acceptable rest ms) e
 
   -- a scan that is cut behind a move is cut at it, where no try is left
-  cut_one : (place : ℕ) (m : Move) (ms : List Move) → rest ≤ place → scan_from (suc place) acceptable rest ms ≡ Cut → scan_from place acceptable rest (m ∷ ms) ≡ Cut
+  cut_one : (place : ℕ) (m : Move) (ms : List Move) → rest ≤ place
+      → scan_from (suc place) acceptable rest ms ≡ Cut → scan_from place acceptable rest (m ∷ ms) ≡ Cut
   cut_one place m ms far behind = go (acceptable m) behind
     where
       here : nat_le (suc place) rest ≡ false
       here = Prim.grind arith
 
-      go : (b : Bool) → scan_from (suc place) acceptable rest ms ≡ Cut → cond b (cond (nat_le (suc place) rest) (Accepted (suc place) m) Cut) (scan_from (suc place) acceptable rest ms) ≡ Cut
+      go : (b : Bool) → scan_from (suc place) acceptable rest ms ≡ Cut
+          → cond b (cond (nat_le (suc place) rest) (Accepted (suc place) m) Cut) (scan_from (suc place) acceptable rest ms) ≡ Cut
       go true e = ap (λ c. cond c (Accepted (suc place) m) Cut) here
       go false e = e
 
@@ -93,7 +97,8 @@ module _ (acceptable : Move → Bool) (rest : ℕ) where
       none f r m (inr h) = r.none m h
 
       by : (scan_from (suc place) acceptable rest xs ≡ Accepted n mv → InFront xs mv) → (b : Bool) → acceptable x ≡ b
-          → cond b (cond (nat_le (suc place) rest) (Accepted (suc place) x) Cut) (scan_from (suc place) acceptable rest xs) ≡ Accepted n mv → InFront (x ∷ xs) mv
+          → cond b (cond (nat_le (suc place) rest) (Accepted (suc place) x) Cut) (scan_from (suc place) acceptable rest xs) ≡ Accepted n mv
+          → InFront (x ∷ xs) mv
       by later true f e = record { before = []; after = xs; split = ap (λ y. y ∷ xs) (here (nat_le (suc place) rest) e); none = λ m h. absurd h }
       by later false f e = let r = later e in record { before = x ∷ r.before; after = r.after; split = ap (λ l. x ∷ l) r.split; none = none f r }
 
@@ -107,7 +112,8 @@ module _ (acceptable : Move → Bool) (rest : ℕ) where
       taken false e = Prim.cc
 
       by : (scan_from (suc place) acceptable rest xs ≡ Complete n → In xs m → acceptable m ≡ false) → (b : Bool) → acceptable x ≡ b
-          → cond b (cond (nat_le (suc place) rest) (Accepted (suc place) x) Cut) (scan_from (suc place) acceptable rest xs) ≡ Complete n → In (x ∷ xs) m → acceptable m ≡ false
+          → cond b (cond (nat_le (suc place) rest) (Accepted (suc place) x) Cut) (scan_from (suc place) acceptable rest xs) ≡ Complete n
+          → In (x ∷ xs) m → acceptable m ≡ false
       by later true f e h = absurd (taken (nat_le (suc place) rest) e)
       by later false f e (inl same) = ap acceptable same ∙ f
       by later false f e (inr there) = later e there

@@ -19,7 +19,8 @@ use Rattle.vr_descent.proofs.EndLemmas.{accepted_at, completed, was_cut}
 use Rattle.vr_descent.proofs.IncumbentLemmas.{kept_is_best}
 
 -- a move was accepted at a place, and made
-pub record Moved (model : Model) (takes : List (List ℕ) → Move → ℤ → Bool) (limit : Limit) (routes after : Tours) (at now : Progress) (place : ℕ) (mv : Move) : Type 0 where
+pub record Moved (model : Model) (takes : List (List ℕ) → Move → ℤ → Bool) (limit : Limit)
+    (routes after : Tours) (at now : Progress) (place : ℕ) (mv : Move) : Type 0 where
   pub scanned : scan_of model takes limit routes.lists at.used ≡ accepted place mv
   pub from_one : 1 ≤ place
   pub within : place ≤ limit.tries - at.used
@@ -77,7 +78,8 @@ module _ (model : Model) (takes : List (List ℕ) → Move → ℤ → Bool) (li
 
 module _ (model : Model) (limit : Limit) (routes after : Tours) (at now : Progress) (committed judged : Tours → Type 0) where
   -- a search is under way still where a move was made, and the cheaper routes are kept
-  pub under_way_moved : (takes : List (List ℕ) → Move → ℤ → Bool) (place : ℕ) (mv : Move) (best new : Incumbent) → Moved model takes limit routes after at now place mv → IsUnderWay model limit committed routes at best
+  pub under_way_moved : (takes : List (List ℕ) → Move → ℤ → Bool) (place : ℕ) (mv : Move) (best new : Incumbent)
+      → Moved model takes limit routes after at now place mv → IsUnderWay model limit committed routes at best
       → HasCommitted model judged after → new ≡ kept best after now.cost → ((at.found ≡ limit.solutions) → ⊥) → IsUnderWay model limit judged after now new
   under_way_moved takes place mv best new gave before holds keeps more =
       let used_new = ap (λ p. p.used) gave.at_is in
@@ -94,7 +96,8 @@ module _ (model : Model) (limit : Limit) (routes after : Tours) (at now : Progre
       }
 
   -- so it is where none was made, and only the tries are counted
-  pub under_way_still : (used : ℕ) (best : Incumbent) → after ≡ routes → now ≡ record { used = used; found = at.found; cost = at.cost } → IsUnderWay model limit committed routes at best → HasCommitted model judged after → used ≤ limit.tries
+  pub under_way_still : (used : ℕ) (best : Incumbent) → after ≡ routes → now ≡ record { used = used; found = at.found; cost = at.cost }
+      → IsUnderWay model limit committed routes at best → HasCommitted model judged after → used ≤ limit.tries
       → IsUnderWay model limit judged after now best
   under_way_still used best routes_are at_is before holds low =
       let used_new = ap (λ p. p.used) at_is in

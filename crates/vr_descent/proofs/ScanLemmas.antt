@@ -11,10 +11,12 @@ use Rattle.vr_model.proofs.tables.Members.{In, to_contains, from_each, to_each}
 use Rattle.vr_model.proofs.moves.MoveMembers.{in_all, moves_as_tested}
 
 -- each move of some neighbourhoods is one of all
-pub one_move : (model : Model) (some : List Neighbourhood) (lists : List (List ℕ)) (mv : Move) → In (moves_over model some lists) mv → IsTrue (is_move model lists mv)
+pub one_move : (model : Model) (some : List Neighbourhood) (lists : List (List ℕ)) (mv : Move)
+    → In (moves_over model some lists) mv → IsTrue (is_move model lists mv)
 unfolding moves_over
 one_move model some lists mv h = (moves_as_tested model lists mv).0 (to_contains _ mv
-    (from_each (moves_in model lists) some mv h λ neighbourhood known found. to_each (moves_in model lists) all_neighbourhoods neighbourhood mv (in_all neighbourhood) found))
+    (from_each (moves_in model lists) some mv h
+    λ neighbourhood known found. to_each (moves_in model lists) all_neighbourhoods neighbourhood mv (in_all neighbourhood) found))
 
 every : {A : Type 0} (test : A → Bool) (xs : List A) → ((x : A) → In xs x → test x ≡ true) → list_all test xs ≡ true
 every test [] h = refl

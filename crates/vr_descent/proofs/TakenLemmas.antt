@@ -39,6 +39,7 @@ module _ (model : Model) (takes : List (List ℕ) → Move → ℤ → Bool) (li
       by false none = refl
 
 -- so it is of a run whose moves make no less than a bound with which none is taken
-pub run_refused : (model : Model) (takes : List (List ℕ) → Move → ℤ → Bool) (lists : List (List ℕ)) (mv : Move) (bound : ℤ) → IsEnough model takes lists mv bound
+pub run_refused : (model : Model) (takes : List (List ℕ) → Move → ℤ → Bool) (lists : List (List ℕ)) (mv : Move) (bound : ℤ)
+    → IsEnough model takes lists mv bound
     → (k : ℕ) → IsNoLess model lists (with_last mv k) bound → IsRefused model takes lists (with_last mv k)
 run_refused model takes lists mv bound enough k no_less one = refused_at_least model takes lists (with_last mv k) bound (no_less one) (enough k one)

@@ -1,5 +1,6 @@
 -- A schedule without breaks that could start earlier.
-use Rattle.std.proofs.Common.{◌≡◌, ◌∙◌, ℕ, zero, suc, ◌<◌, ◌⊎◌, inl, inr, true, false, not, List, [], ◌∷◌, ◌++◌, length, Option, Some, None, refl, ap, sym, subst, arith}
+use Rattle.std.proofs.Common.{◌≡◌, ◌∙◌, ℕ, zero, suc, ◌<◌, ◌⊎◌, inl, inr, true, false, not, List, [], ◌∷◌, ◌++◌, length, Option, Some, None, refl, ap, sym}
+use Rattle.std.proofs.Common.{subst, arith}
 use Rattle.std.specs.Prelude.{ℤ, pos, negsuc, ◌+ℤ◌, ◌-ℤ◌, ◌≤ℤ◌, ◌||◌, fold, IsTrue, int_le, int_lt}
 use Rattle.std.specs.List.{list_all}
 use Rattle.std.proofs.lemmas.Int.{ints, int_min_is}
@@ -50,7 +51,8 @@ none-of [] h = refl
 none-of (x ∷ xs) h = absurd (let f : false ≡ true → ⊥ = λ e. Prim.cc in f h)
 
 -- a start that forbids no number between others allows the number before one above its floor
-pub start-before : (dimension : Dimension) (capacity : ℤ) (row : Option StopRow) (x : ℤ) → WherePresent IsStopRow row → IsTrue (forbids_none row) → IsTrue (start_allows dimension capacity row x) → (floor_of row +ℤ pos 1) ≤ℤ x → x ≤ℤ horizon
+pub start-before : (dimension : Dimension) (capacity : ℤ) (row : Option StopRow) (x : ℤ) → WherePresent IsStopRow row
+    → IsTrue (forbids_none row) → IsTrue (start_allows dimension capacity row x) → (floor_of row +ℤ pos 1) ≤ℤ x → x ≤ℤ horizon
     → IsTrue (start_allows dimension capacity row (x +ℤ negsuc 0))
 start-before dimension capacity row x is none allowed above top =
     and_both (stop_allows capacity row (x +ℤ negsuc 0)) _ (stop row is none above (and_left (stop_allows capacity row x) _ allowed))
@@ -65,20 +67,25 @@ start-before dimension capacity row x is none allowed above top =
 
     above_opening : (row : StopRow) → IsTrue (is_empty row.forbidden) → (floor_of (Some row) +ℤ pos 1) ≤ℤ x → (opening row.window +ℤ pos 1) ≤ℤ x
     above_opening row none above =
-        let e : fold behind_interval (opening row.window) row.forbidden ≡ opening row.window = ap (fold behind_interval (opening row.window)) (none-of row.forbidden none) in
+        let e : fold behind_interval (opening row.window) row.forbidden ≡ opening row.window = ap (fold behind_interval (opening row.window))
+        (none-of row.forbidden none) in
         let m = int_min_is horizon (fold behind_interval (opening row.window) row.forbidden) in
         omega (arith, ints, e, m, above, top)
 
-    stop : (row : Option StopRow) → WherePresent IsStopRow row → IsTrue (forbids_none row) → (floor_of row +ℤ pos 1) ≤ℤ x → IsTrue (stop_allows capacity row x) → IsTrue (stop_allows capacity row (x +ℤ negsuc 0))
+    stop : (row : Option StopRow) → WherePresent IsStopRow row → IsTrue (forbids_none row) → (floor_of row +ℤ pos 1) ≤ℤ x
+        → IsTrue (stop_allows capacity row x) → IsTrue (stop_allows capacity row (x +ℤ negsuc 0))
     stop None is none above allowed =
         let w = within_is (pos 0) capacity x (and_left (within (pos 0) capacity x) _ allowed) in
-        and_both (within (pos 0) capacity (x +ℤ negsuc 0)) true (test_of_within (pos 0) capacity (x +ℤ negsuc 0) (omega (arith, ints, above)) (omega (arith, ints, w.1))) refl
+        and_both (within (pos 0) capacity (x +ℤ negsuc 0)) true
+        (test_of_within (pos 0) capacity (x +ℤ negsuc 0) (omega (arith, ints, above)) (omega (arith, ints, w.1))) refl
     stop (Some row) is none above allowed =
         let w = within_is (pos 0) capacity x (and_left (within (pos 0) capacity x) _ allowed) in
         let a = above_opening row none above in
         let o = opens row is in
-        and_both (within (pos 0) capacity (x +ℤ negsuc 0)) _ (test_of_within (pos 0) capacity (x +ℤ negsuc 0) (omega (arith, ints, a, o)) (omega (arith, ints, w.1)))
-        (and_both (in_window row.window (x +ℤ negsuc 0)) _ (window row.window a (and_left (in_window row.window x) _ (and_right (within (pos 0) capacity x) _ allowed)))
+        and_both (within (pos 0) capacity (x +ℤ negsuc 0)) _
+        (test_of_within (pos 0) capacity (x +ℤ negsuc 0) (omega (arith, ints, a, o)) (omega (arith, ints, w.1)))
+        (and_both (in_window row.window (x +ℤ negsuc 0)) _
+        (window row.window a (and_left (in_window row.window x) _ (and_right (within (pos 0) capacity x) _ allowed)))
         (subst (λ l. IsTrue (list_all (λ interval. not (within interval.lo interval.hi (x +ℤ negsuc 0))) l)) (sym (none-of row.forbidden none)) refl))
       where
         window : (window : Option Interval) → (opening window +ℤ pos 1) ≤ℤ x → IsTrue (in_window window x) → IsTrue (in_window window (x +ℤ negsuc 0))
@@ -98,7 +105,8 @@ start-before dimension capacity row x is none allowed above top =
 sum-none : (f : ℕ → ℤ) (n : ℕ) → n ≡ 0 → total_by f (below n) ≡ pos 0
 sum-none f n e = ap (λ m. total_by f (below m)) e
 
-module _ (line : Line) (plan : Plan) (keeps : IsSchedule line plan) (no_breaks : line.breaks ≡ []) (some : 0 < length line.arcs) (stops : 0 < length line.allowed)
+module _ (line : Line) (plan : Plan) (keeps : IsSchedule line plan)
+    (no_breaks : line.breaks ≡ []) (some : 0 < length line.arcs) (stops : 0 < length line.allowed)
     (allowed : IsTrue (allows line 0 (cumul plan 0 +ℤ negsuc 0))) (room : (slack plan 0 +ℤ pos 1) ≤ℤ line.slack_max) where
   first : cumul (earlier plan) 0 ≡ cumul plan 0 +ℤ negsuc 0
   first = shifted-first plan.cumuls (negsuc 0) (omega (arith, keeps.cumul_of_each_stop, stops))

@@ -17,14 +17,16 @@ AreTold model lists parts n rows =
     (d : ℕ) → d < n → (IsUnpaid (dimension_at model d) → ⊥) → IsEarlyRow model lists parts d (slice_index_or rows d [])
 
 -- of some lists nothing is kept only where nothing is paid for spans
-pub unpaid-where-none : (model : Model) (d : ℕ) (lists : List (List ℕ)) (kept : List KeptWays) → HaveWays model d lists kept → length kept ≡ 0 → 0 < length lists → IsUnpaid (dimension_at model d)
+pub unpaid-where-none : (model : Model) (d : ℕ) (lists : List (List ℕ)) (kept : List KeptWays)
+    → HaveWays model d lists kept → length kept ≡ 0 → 0 < length lists → IsUnpaid (dimension_at model d)
 unpaid-where-none model d lists kept h none some = elim h.many [
   | inl many ↦ absurd (omega (arith, many, none, some))
   | inr unpaid ↦ unpaid
 ]
 
 -- where something is kept it is of all of them
-pub all-where-some : (model : Model) (d : ℕ) (lists : List (List ℕ)) (kept : List KeptWays) → HaveWays model d lists kept → 0 < length kept → length kept ≡ length lists
+pub all-where-some : (model : Model) (d : ℕ) (lists : List (List ℕ)) (kept : List KeptWays)
+    → HaveWays model d lists kept → 0 < length kept → length kept ≡ length lists
 all-where-some model d lists kept h some = elim h.many [
   | inl many ↦ many
   | inr unpaid ↦ (let none = h.none unpaid in absurd (omega (arith, none, some)))
@@ -32,7 +34,8 @@ all-where-some model d lists kept h some = elim h.many [
 
 module _ (model : Model) (lists : List (List ℕ)) (parts : List ListAfter) (n : ℕ) (rows : List (List Early)) (told : AreTold model lists parts n rows) where
   -- one dimension more is told
-  pub told-more : (row : List Early) → n < 4 → length (slice_set rows n row) ≡ 4 → IsEarlyRow model lists parts n row → AreTold model lists parts (n + 1) (slice_set rows n row)
+  pub told-more : (row : List Early) → n < 4 → length (slice_set rows n row) ≡ 4
+      → IsEarlyRow model lists parts n row → AreTold model lists parts (n + 1) (slice_set rows n row)
   told-more row low four is d under paid = elim (cases_lt d n) [
     | inl before ↦ subst (IsEarlyRow model lists parts d) (sym (get_or-set_other rows n d row [] (omega (arith, before)))) (told d before paid)
     | inr past ↦ (

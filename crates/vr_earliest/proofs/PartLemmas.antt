@@ -28,7 +28,8 @@ pub record IsKeptAround (g : Guide) (lists : List (List ℕ)) (pieces : List Pie
   pub before : All (λ node. node < g.model.now.nodes) (route lists g.v)
   pub below : All (λ node. node < g.model.now.nodes) (joined lists pieces)
 
-module _ {g : Guide} {lists : List (List ℕ)} {pieces : List Piece} {front behind : ℕ} {middle : List Piece} {kept : KeptWays} (it : IsKeptAround g lists pieces front behind middle kept) where
+module _ {g : Guide} {lists : List (List ℕ)} {pieces : List Piece} {front behind : ℕ}
+    {middle : List Piece} {kept : KeptWays} (it : IsKeptAround g lists pieces front behind middle kept) where
   low : front ≤ length (route lists g.v)
   low = omega (arith, it.splice.order, it.splice.high)
 
@@ -46,7 +47,8 @@ module _ {g : Guide} {lists : List (List ℕ)} {pieces : List Piece} {front behi
   pub middle-below : All (λ node. node < g.model.now.nodes) (joined lists middle)
   middle-below =
       let Below : ℕ → Type 0 = λ node. node < g.model.now.nodes in
-      all_left Below (joined lists middle) (drop behind (route lists g.v)) (all_right Below (take front (route lists g.v)) (joined lists middle ++ drop behind (route lists g.v)) (subst (All Below) it.splice.joins it.below))
+      all_left Below (joined lists middle) (drop behind (route lists g.v))
+      (all_right Below (take front (route lists g.v)) (joined lists middle ++ drop behind (route lists g.v)) (subst (All Below) it.splice.joins it.below))
 
   -- the way that is kept in front
   way-is : (way : Way) → ((other : Way) → way ≡ slice_index_or kept.ways.items front other) → way ≡ way_along g.model.now g.d g.v (take front (route lists g.v))
@@ -55,24 +57,30 @@ module _ {g : Guide} {lists : List (List ℕ)} {pieces : List Piece} {front behi
   pub way-small : (way : Way) → ((other : Way) → way ≡ slice_index_or kept.ways.items front other) → IsWayOf g.model.now 1000 way
   way-small way read =
       subst (IsWayOf g.model.now 1000) (sym (way-is way read))
-      (way-front g.model.now g.sound.well_formed g.d g.v g.sound.dimension g.sound.vehicle g.floors.now g.sound.floors_are (route lists g.v) it.has.few it.before front low)
+      (way-front g.model.now g.sound.well_formed g.d g.v g.sound.dimension g.sound.vehicle
+      g.floors.now g.sound.floors_are (route lists g.v) it.has.few it.before front low)
 
   -- what is kept behind
-  rest-is : (rest : Rest) → ((other : Rest) → rest ≡ slice_index_or kept.rests.items (length kept.rests.items - 1 - behind) other) → rest ≡ rest_of g.model.now g.d g.v (drop behind (route lists g.v))
+  rest-is : (rest : Rest) → ((other : Rest) → rest ≡ slice_index_or kept.rests.items (length kept.rests.items - 1 - behind) other)
+      → rest ≡ rest_of g.model.now g.d g.v (drop behind (route lists g.v))
   rest-is rest read = rest-at g.model.now g.d g.v (route lists g.v) kept behind rest it.has it.splice.high read
 
-  pub rest-small : (rest : Rest) → ((other : Rest) → rest ≡ slice_index_or kept.rests.items (length kept.rests.items - 1 - behind) other) → IsRestOf g.model.now 1000 rest
+  pub rest-small : (rest : Rest) → ((other : Rest) → rest ≡ slice_index_or kept.rests.items (length kept.rests.items - 1 - behind) other)
+      → IsRestOf g.model.now 1000 rest
   rest-small rest read =
       subst (IsRestOf g.model.now 1000) (sym (rest-is rest read))
-      (rest-behind g.model.now g.sound.well_formed g.d g.v g.sound.dimension g.sound.vehicle g.floors.now g.sound.floors_are (route lists g.v) it.has.few it.before behind)
+      (rest-behind g.model.now g.sound.well_formed g.d g.v g.sound.dimension g.sound.vehicle
+      g.floors.now g.sound.floors_are (route lists g.v) it.has.few it.before behind)
 
   -- the way along the front, on along the middle and through what is left is the whole one
   pub whole-is : (first way whole : Way) (rest : Rest) → ((other : Way) → first ≡ slice_index_or kept.ways.items front other)
       → ((other : Rest) → rest ≡ slice_index_or kept.rests.items (length kept.rests.items - 1 - behind) other)
-      → way ≡ to_visits g.model.now g.d g.v first (joined lists middle) → whole ≡ way_through_rest g.model.now g.d g.v way rest → whole ≡ whole_way g.model.now g.d g.v (joined lists pieces)
+      → way ≡ to_visits g.model.now g.d g.v first (joined lists middle)
+      → whole ≡ way_through_rest g.model.now g.d g.v way rest → whole ≡ whole_way g.model.now g.d g.v (joined lists pieces)
   whole-is first way whole rest first_read rest_read way_is is =
       is
-      ∙ ap₂ (λ (w : Way) (r : Rest). way_through_rest g.model.now g.d g.v w r) (way_is ∙ ap (λ (w : Way). to_visits g.model.now g.d g.v w (joined lists middle)) (way-is first first_read)) (rest-is rest rest_read)
+      ∙ ap₂ (λ (w : Way) (r : Rest). way_through_rest g.model.now g.d g.v w r)
+      (way_is ∙ ap (λ (w : Way). to_visits g.model.now g.d g.v w (joined lists middle)) (way-is first first_read)) (rest-is rest rest_read)
       ∙ whole-way g.model.now g.d g.v (take front (route lists g.v)) (joined lists middle) (drop behind (route lists g.v)) (joined lists pieces) it.splice.joins
 
 -- ---- a part of a change
@@ -91,16 +99,21 @@ module _ {early : KeptEarly} {lists : List (List ℕ)} {parts : List ListAfter} 
     vehicle-known = let known = may.parts_are.each_vehicle k no_part part in omega (arith, known, is)
 
     -- the list that a part gives the vehicle of a guide
-    pub kept-around : (g : Guide) (ones : List KeptWays) (one : KeptWays) {front behind : ℕ} {middle : List Piece} → g.model.now ≡ early.model → g.d ≡ d → g.v ≡ v → ones ≡ slice_index_or early.kept d ones → one ≡ slice_index_or ones v one
-        → IsSplice lists (part_at parts k).vehicle (part_at parts k).pieces front behind middle → IsKeptAround g lists (part_at parts k).pieces front behind middle one
+    pub kept-around : (g : Guide) (ones : List KeptWays) (one : KeptWays) {front behind : ℕ} {middle : List Piece}
+        → g.model.now ≡ early.model → g.d ≡ d → g.v ≡ v → ones ≡ slice_index_or early.kept d ones → one ≡ slice_index_or ones v one
+        → IsSplice lists (part_at parts k).vehicle (part_at parts k).pieces front behind middle
+        → IsKeptAround g lists (part_at parts k).pieces front behind middle one
     kept-around g ones one {front} {behind} {middle} same_model same_dimension same_vehicle ones_are one_is splice =
         let s = small early.model (subst IsWellFormed same_model g.sound.well_formed) lists may.stands.valid in
         let many = kept-of-all ones ones_are in
         let known = vehicle-known in
-        let has = kept-one early.model d lists ones v one (subst (HaveWays early.model d lists) (sym ones_are) (may.stands.ways.each d ones here)) (omega (arith, many, known)) one_is in
+        let has = kept-one early.model d lists ones v one
+        (subst (HaveWays early.model d lists) (sym ones_are) (may.stands.ways.each d ones here)) (omega (arith, many, known)) one_is in
         record {
           splice = subst (λ w. IsSplice lists w (part_at parts k).pieces front behind middle) (sym (same_vehicle ∙ is)) splice;
-          has = subst (λ w. HasWays g.model.now g.d w (route lists w) one) (sym same_vehicle) (subst (λ e. HasWays g.model.now e v (route lists v) one) (sym same_dimension) (subst (λ m. HasWays m d v (route lists v) one) (sym same_model) has));
+          has = subst (λ w. HasWays g.model.now g.d w (route lists w) one) (sym same_vehicle)
+              (subst (λ e. HasWays g.model.now e v (route lists v) one) (sym same_dimension)
+              (subst (λ m. HasWays m d v (route lists v) one) (sym same_model) has));
           few = s.few;
           before = subst (λ m. All (λ node. node < m.nodes) (route lists g.v)) (sym same_model) (s.below g.v);
           below = subst (λ m. All (λ node. node < m.nodes) (joined lists (part_at parts k).pieces)) (sym same_model) (may.below k part);

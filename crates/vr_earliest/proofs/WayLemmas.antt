@@ -1,5 +1,6 @@
 -- Ways and what is left behind them, and their numbers.
-use Rattle.std.proofs.Common.{◌≡◌, ◌∙◌, ℕ, suc, ◌+◌, ◌<◌, ◌≤◌, Bool, true, false, cond, List, [], ◌∷◌, ◌++◌, ◌-◌, ◌*◌, length, length-append, reverse, take, drop, refl, ap, ap₂, sym, subst, arith}
+use Rattle.std.proofs.Common.{◌≡◌, ◌∙◌, ℕ, suc, ◌+◌, ◌<◌, ◌≤◌, Bool, true, false, cond, List, [], ◌∷◌, ◌++◌, ◌-◌, ◌*◌, length, length-append, reverse, take}
+use Rattle.std.proofs.Common.{drop, refl, ap, ap₂, sym, subst, arith}
 use Rattle.std.specs.Prelude.{ℤ, pos, ◌+ℤ◌, All}
 use Rattle.std.specs.Int.{int_max}
 use Rattle.std.proofs.lemmas.List.Sums.{fold-append}
@@ -25,7 +26,8 @@ use Rattle.vr_earliest.specs.Rests.{at_end, rest_with_visit, rest_of, way_throug
 use Rattle.vr_earliest.specs.Ways.{arcs-more, to_visits, way_from_start, to_node, on_to_visit, way_along, whole_way, IsWayOf}
 
 module _ (model : Model) (well : IsWellFormed model) (d v : ℕ) (dimension : d < length model.dimensions) (vehicle : v < length model.vehicles) where
-  pub node-way : (n : ℕ) (way : Way) (node : ℕ) (floor : ℤ) → IsWayOf model n way → node < model.nodes → IsIn (pos 0) horizon floor → IsWayOf model (n + 1) (to_node model d v way node floor)
+  pub node-way : (n : ℕ) (way : Way) (node : ℕ) (floor : ℤ) → IsWayOf model n way → node < model.nodes
+      → IsIn (pos 0) horizon floor → IsWayOf model (n + 1) (to_node model d v way node floor)
   node-way n way node floor h low range =
       let t = transit_in_range model well d v dimension vehicle way.at node h.at low in
       let m = int_max_is (way.time +ℤ transit model d v way.at node) floor in
@@ -37,7 +39,8 @@ module _ (model : Model) (well : IsWellFormed model) (d v : ℕ) (dimension : d 
         high = omega (arith, ints, h.high, t.at_most);
       }
 
-  pub along-way : (floors : List ℤ) → HaveFloors (dimension_at model d).nodes model.nodes floors → (nodes : List ℕ) → All (λ node. node < model.nodes) nodes → (n : ℕ) (way : Way) → IsWayOf model n way
+  pub along-way : (floors : List ℤ) → HaveFloors (dimension_at model d).nodes model.nodes floors
+      → (nodes : List ℕ) → All (λ node. node < model.nodes) nodes → (n : ℕ) (way : Way) → IsWayOf model n way
       → IsWayOf model (n + length nodes) (to_visits model d v way nodes)
   along-way floors have [] all n way h = arcs-more n (n + 0) (omega arith) h
   along-way floors have (x ∷ xs) all n way h =
@@ -47,10 +50,12 @@ module _ (model : Model) (well : IsWellFormed model) (d v : ℕ) (dimension : d 
       let rest = along-way floors have xs (λ k d low. all (suc k) d (omega (arith, low))) (n + 1) (on_to_visit model d v way x) next in
       arcs-more (n + 1 + length xs) (n + suc (length xs)) (omega arith) rest
 
-  pub along-part : (floors : List ℤ) → HaveFloors (dimension_at model d).nodes model.nodes floors → (nodes : List ℕ) → All (λ node. node < model.nodes) nodes → (n : ℕ) (way : Way) → IsWayOf model n way → (k : ℕ) → k ≤ length nodes
+  pub along-part : (floors : List ℤ) → HaveFloors (dimension_at model d).nodes model.nodes floors → (nodes : List ℕ)
+      → All (λ node. node < model.nodes) nodes → (n : ℕ) (way : Way) → IsWayOf model n way → (k : ℕ) → k ≤ length nodes
       → IsWayOf model (n + k) (to_visits model d v way (take k nodes))
   along-part floors have nodes all n way h k le =
-      arcs-more (n + length (take k nodes)) (n + k) (let l = length-take-le k nodes le in omega (arith, l)) (along-way floors have (take k nodes) (All-take (λ node. node < model.nodes) k nodes all) n way h)
+      arcs-more (n + length (take k nodes)) (n + k) (let l = length-take-le k nodes le in omega (arith, l))
+      (along-way floors have (take k nodes) (All-take (λ node. node < model.nodes) k nodes all) n way h)
 
   pub start-way : IsIn (pos 0) horizon (start_floor model d v) → IsWayOf model 0 (way_from_start model d v)
   start-way range = record {
@@ -72,7 +77,8 @@ module _ (model : Model) (well : IsWellFormed model) (d v : ℕ) (dimension : d 
   }
 
   -- what is left of one arc more
-  pub rest-before : (n : ℕ) (rest : Rest) (node : ℕ) → IsRestOf model n rest → node < model.nodes → IsIn (pos 0) horizon (visit_floor model d node) → IsRestOf model (n + 1) (rest_with_visit model d v node rest)
+  pub rest-before : (n : ℕ) (rest : Rest) (node : ℕ) → IsRestOf model n rest → node < model.nodes
+      → IsIn (pos 0) horizon (visit_floor model d node) → IsRestOf model (n + 1) (rest_with_visit model d v node rest)
   rest-before n rest node h low range =
       let t = transit_in_range model well d v dimension vehicle node rest.at low h.at in
       let m = int_max_is (visit_floor model d node +ℤ (transit model d v node rest.at +ℤ rest.transits)) rest.least_end in
@@ -85,7 +91,8 @@ module _ (model : Model) (well : IsWellFormed model) (d v : ℕ) (dimension : d 
       }
 
   -- a way through what is left
-  pub end-way : (n m : ℕ) (way : Way) (rest : Rest) → IsWayOf model n way → IsRestOf model m rest → IsWayOf model (n + 1 + m) (way_through_rest model d v way rest)
+  pub end-way : (n m : ℕ) (way : Way) (rest : Rest) → IsWayOf model n way
+      → IsRestOf model m rest → IsWayOf model (n + 1 + m) (way_through_rest model d v way rest)
   end-way n m way rest h r =
       let t = transit_in_range model well d v dimension vehicle way.at rest.at h.at r.at in
       let x = int_max_is (way.time +ℤ (transit model d v way.at rest.at +ℤ rest.transits)) rest.least_end in
@@ -98,21 +105,24 @@ module _ (model : Model) (well : IsWellFormed model) (d v : ℕ) (dimension : d 
       }
 
   -- what is left from visits on
-  pub rest-range : (floors ends : List ℤ) → HaveFloors (dimension_at model d).nodes model.nodes floors → HaveFloors (dimension_at model d).ends (length model.vehicles) ends
+  pub rest-range : (floors ends : List ℤ) → HaveFloors (dimension_at model d).nodes model.nodes floors
+      → HaveFloors (dimension_at model d).ends (length model.vehicles) ends
       → (nodes : List ℕ) → All (λ node. node < model.nodes) nodes → IsRestOf model (length nodes) (rest_of model d v nodes)
   rest-range floors ends have last [] all = end-rest (floor-range _ _ ends last v vehicle)
   rest-range floors ends have last (x ∷ xs) all =
       let low : x < model.nodes = all 0 0 (omega arith) in
       let range = floor-range _ _ floors have x low in
       let rest = rest-range floors ends have last xs (λ k d low. all (suc k) d (omega (arith, low))) in
-      subst (λ n. IsRestOf model n (rest_of model d v (x ∷ xs))) (let e : length xs + 1 ≡ suc (length xs) = omega arith in e) (rest-before (length xs) (rest_of model d v xs) x rest low range)
+      subst (λ n. IsRestOf model n (rest_of model d v (x ∷ xs))) (let e : length xs + 1 ≡ suc (length xs) = omega arith in e)
+      (rest-before (length xs) (rest_of model d v xs) x rest low range)
 
   module _ (floors : Floors) (have : AreFloors model d floors) (list : List ℕ) (few : length list ≤ 1000) (nodes : All (λ node. node < model.nodes) list) where
     -- the way along the first visits of a list
     pub way-front : (k : ℕ) → k ≤ length list → IsWayOf model 1000 (way_along model d v (take k list))
     way-front k low =
         arcs-more (0 + k) 1000 (omega (arith, few, low))
-        (along-part floors.visits.items have.visits list nodes 0 (way_from_start model d v) (start-way (floor-range _ _ floors.starts.items have.starts v vehicle)) k low)
+        (along-part floors.visits.items have.visits list nodes 0 (way_from_start model d v)
+        (start-way (floor-range _ _ floors.starts.items have.starts v vehicle)) k low)
 
     -- what is left behind a place of it
     pub rest-behind : (k : ℕ) → IsRestOf model 1000 (rest_of model d v (drop k list))
@@ -122,7 +132,8 @@ module _ (model : Model) (well : IsWellFormed model) (d v : ℕ) (dimension : d 
 
 module _ (model : Model) (d v : ℕ) where
   -- through a visit and what is left behind it
-  through-visit : (way : Way) (x : ℕ) (rest : Rest) → way_through_rest model d v way (rest_with_visit model d v x rest) ≡ way_through_rest model d v (on_to_visit model d v way x) rest
+  through-visit : (way : Way) (x : ℕ) (rest : Rest)
+      → way_through_rest model d v way (rest_with_visit model d v x rest) ≡ way_through_rest model d v (on_to_visit model d v way x) rest
   through-visit way x rest =
       let t = transit model d v way.at x in
       let u = transit model d v x rest.at in
@@ -130,7 +141,8 @@ module _ (model : Model) (d v : ℕ) where
       let b = int_max_is (visit_floor model d x +ℤ (u +ℤ rest.transits)) rest.least_end in
       let p = int_max_is (int_max (way.time +ℤ t) (visit_floor model d x) +ℤ (u +ℤ rest.transits)) rest.least_end in
       let q = int_max_is (way.time +ℤ t) (visit_floor model d x) in
-      let time : int_max (way.time +ℤ (t +ℤ (u +ℤ rest.transits))) (int_max (visit_floor model d x +ℤ (u +ℤ rest.transits)) rest.least_end) ≡ int_max (int_max (way.time +ℤ t) (visit_floor model d x) +ℤ (u +ℤ rest.transits)) rest.least_end = omega (arith, ints, a, b, p, q) in
+      let time : int_max (way.time +ℤ (t +ℤ (u +ℤ rest.transits))) (int_max (visit_floor model d x +ℤ (u +ℤ rest.transits)) rest.least_end)
+      ≡ int_max (int_max (way.time +ℤ t) (visit_floor model d x) +ℤ (u +ℤ rest.transits)) rest.least_end = omega (arith, ints, a, b, p, q) in
       let transits : way.transits +ℤ (t +ℤ (u +ℤ rest.transits)) ≡ (way.transits +ℤ t) +ℤ (u +ℤ rest.transits) = omega (arith, ints) in
       ap₂ (λ (x y : ℤ). (let w : Way = record { at = (vehicle_at model v).end; time = x; transits = y } in w)) time transits
 
@@ -138,10 +150,13 @@ module _ (model : Model) (d v : ℕ) where
   through-end way =
       let t = transit model d v way.at (vehicle_at model v).end in
       let left : t +ℤ pos 0 ≡ t = omega (arith, ints) in
-      ap (λ (x : ℤ). (let w : Way = record { at = (vehicle_at model v).end; time = int_max (way.time +ℤ x) (end_floor model d v); transits = way.transits +ℤ x } in w)) left
+      ap (λ (x : ℤ).
+      (let w : Way = record { at = (vehicle_at model v).end; time = int_max (way.time +ℤ x) (end_floor model d v); transits = way.transits +ℤ x } in w))
+      left
 
   -- what is left from visits on is the way along them to the end
-  pub through-rest : (nodes : List ℕ) (way : Way) → way_through_rest model d v way (rest_of model d v nodes) ≡ to_node model d v (to_visits model d v way nodes) (vehicle_at model v).end (end_floor model d v)
+  pub through-rest : (nodes : List ℕ) (way : Way) → way_through_rest model d v way (rest_of model d v nodes)
+      ≡ to_node model d v (to_visits model d v way nodes) (vehicle_at model v).end (end_floor model d v)
   through-rest [] way = through-end way
   through-rest (x ∷ xs) way = through-visit way x (rest_of model d v xs) ∙ through-rest xs (on_to_visit model d v way x)
 
@@ -152,18 +167,21 @@ module _ (model : Model) (d v : ℕ) where
       through-rest behind (to_visits model d v (way_along model d v front) middle)
       ∙ sym (ap (whole_way model d v) is
       ∙ ap (λ w. to_node model d v w (vehicle_at model v).end (end_floor model d v))
-      (fold-append (on_to_visit model d v) (way_from_start model d v) front (middle ++ behind) ∙ fold-append (on_to_visit model d v) (way_along model d v front) middle behind))
+      (fold-append (on_to_visit model d v) (way_from_start model d v) front (middle ++ behind)
+      ∙ fold-append (on_to_visit model d v) (way_along model d v front) middle behind))
 
 pub ordered-long : (back : Bool) (xs : List ℕ) → length (cond back (reverse xs) xs) ≡ length xs
 ordered-long false xs = refl
 ordered-long true xs = length-reverse xs
 
 -- what is so of a guide is so of what it is of
-pub by-guide : (guide : Guide) {model : Model} {d v : ℕ} → guide.model.now ≡ model → guide.d ≡ d → guide.v ≡ v → (P : Model → ℕ → ℕ → Type 0) → P guide.model.now guide.d guide.v → P model d v
+pub by-guide : (guide : Guide) {model : Model} {d v : ℕ} → guide.model.now ≡ model → guide.d ≡ d
+    → guide.v ≡ v → (P : Model → ℕ → ℕ → Type 0) → P guide.model.now guide.d guide.v → P model d v
 by-guide guide {model} {d} {v} m n w P is = subst (P model d) w (subst (λ e. P model e guide.v) n (subst (λ x. P x guide.d guide.v) m is))
 
 -- what a guide tells is of its model, its dimension and its vehicle
-pub guided : {A : Type 0} (f : Model → ℕ → ℕ → A) (guide : Guide) (model : Model) (d v : ℕ) → guide.model.now ≡ model → guide.d ≡ d → guide.v ≡ v → f guide.model.now guide.d guide.v ≡ f model d v
+pub guided : {A : Type 0} (f : Model → ℕ → ℕ → A) (guide : Guide) (model : Model) (d v : ℕ)
+    → guide.model.now ≡ model → guide.d ≡ d → guide.v ≡ v → f guide.model.now guide.d guide.v ≡ f model d v
 guided f guide model d v m n w = ap (λ x. f x guide.d guide.v) m ∙ (ap (λ x. f model x guide.v) n ∙ ap (f model d) w)
 
 -- ---- how many nodes pieces have
@@ -180,7 +198,8 @@ piece-few lists few (Chain v from to reversed) =
     let most = few v in
     omega (arith, long, two, all, behind, most)
 
-pub joined-few : (lists : List (List ℕ)) → ((v : ℕ) → length (route lists v) ≤ 1000) → (pieces : List Piece) → length (joined lists pieces) ≤ 1000 * length pieces
+pub joined-few : (lists : List (List ℕ)) → ((v : ℕ) → length (route lists v) ≤ 1000)
+    → (pieces : List Piece) → length (joined lists pieces) ≤ 1000 * length pieces
 joined-few lists few [] = omega arith
 joined-few lists few (x ∷ xs) =
     let two = length-append (nodes_of lists x) (joined lists xs) in

@@ -1,5 +1,6 @@
 -- The item that is appended next, candidate by candidate, and lists that are filled.
-use Rattle.std.proofs.Common.{◌≡◌, ◌∙◌, ◌<◌, ◌≤◌, ◌+◌, ◌++◌, ℕ, zero, suc, List, [], ◌∷◌, Bool, true, false, cond, not, Option, Some, None, refl, ap, sym, subst, arith, length, take, get_or, pos}
+use Rattle.std.proofs.Common.{◌≡◌, ◌∙◌, ◌<◌, ◌≤◌, ◌+◌, ◌++◌, ℕ, zero, suc, List, [], ◌∷◌, Bool, true, false, cond, not, Option, Some, None, refl, ap, sym}
+use Rattle.std.proofs.Common.{subst, arith, length, take, get_or, pos}
 use Rattle.std.specs.Prelude.{map, filter, ◌&&◌, ◌||◌, ◌==◌, IfSome, fold}
 use Rattle.std.specs.Option.{option_map}
 use Rattle.std.specs.List.{list_all}
@@ -26,7 +27,8 @@ use Rattle.vr_model.proofs.tables.Ranges.{below-more}
 use Rattle.vr_model.proofs.routes.Lists.{visit_below}
 use Rattle.vr_rules.proofs.LocalOpenness.{is_open-local}
 use Rattle.vr_rules.proofs.LazyLeast.{IsBest, IsBest-none, IsBest-more}
-use Rattle.vr_rules.proofs.PlacingLemmas.{IsAdded, item-inactive, inactive-route, is_distinct-both, fits_beside-marks, built-count, built-visits, built-distinct, AreBuilt-empty}
+use Rattle.vr_rules.proofs.PlacingLemmas.{IsAdded, item-inactive, inactive-route, is_distinct-both, fits_beside-marks, built-count, built-visits}
+use Rattle.vr_rules.proofs.PlacingLemmas.{built-distinct, AreBuilt-empty}
 use Rattle.vr_first_arc.specs.declared.choice.ArcChoice.{ArcChoice}
 use Rattle.vr_first_arc.specs.Choices.{all_filled, arc_key, item_of_choice, nodes_of_choice, choice_of, chosen_beside, may_append, MayBeAppended}
 use Rattle.vr_rules.specs.Fronts.{tail, IsDriven}
@@ -54,10 +56,12 @@ seen lists candidates i = filter (λ item. not (is_active lists (first_node item
 -- the best choice among the first candidates
 abbrev pub IsBestOf : Model → List (List ℕ) → ℕ → List Candidate → ℕ → Option ArcChoice → Type 0
 IsBestOf model lists v candidates i best =
-    IsBest nodes_of_choice (append_key model lists v) arc_key (λ item. is_open model (appended lists v item)) (λ choice. MayBeAppended model lists v choice.item) best (seen lists candidates i)
+    IsBest nodes_of_choice (append_key model lists v) arc_key (λ item. is_open model (appended lists v item))
+    (λ choice. MayBeAppended model lists v choice.item) best (seen lists candidates i)
 
 -- an item whose first node is not marked stands in no list
-pub inactive_by : (model : Model) (lists : List (List ℕ)) (marks : List Bool) → AreMarks model.nodes lists marks → (item : Item) → IsItem model item → is_marked marks (first_node (item_nodes item)) ≡ false
+pub inactive_by : (model : Model) (lists : List (List ℕ)) (marks : List Bool) → AreMarks model.nodes lists marks
+    → (item : Item) → IsItem model item → is_marked marks (first_node (item_nodes item)) ≡ false
     → is_active lists (first_node (item_nodes item)) ≡ false
 inactive_by model lists marks are item valid free = sym (are.each (first_node (item_nodes item)) false (first-below model item valid)) ∙ free
 
@@ -83,12 +87,16 @@ module _ (model : Model) (lists : List (List ℕ)) (v : ℕ) (built : AreBuilt m
         inactive = inactive;
       }
     where
-      by : (x : ℕ) → holds (route lists v) x ≡ true → (b : Bool) → holds (item_nodes item) x ≡ b → (holds (item_nodes item) x ≡ true → is_active lists x ≡ false) → holds (item_nodes item) x ≡ false
+      by : (x : ℕ) → holds (route lists v) x ≡ true → (b : Bool) → holds (item_nodes item) x ≡ b
+          → (holds (item_nodes item) x ≡ true → is_active lists x ≡ false) → holds (item_nodes item) x ≡ false
       by x there true e none = absurd (clash (holds (route lists v) x) there (inactive-route lists x v (none e)))
       by x there false e none = e
 
-  pub IsDriven-item : (item : Item) → IsItem model item → is_active lists (first_node (item_nodes item)) ≡ false → IsDriven model (route lists v ++ item_nodes item)
-  IsDriven-item item valid first = let added = IsAdded-appended item valid first in record { some = some_behind (route lists v) item; visits = added.visits; distinct = added.distinct }
+  pub IsDriven-item : (item : Item) → IsItem model item
+      → is_active lists (first_node (item_nodes item)) ≡ false → IsDriven model (route lists v ++ item_nodes item)
+  IsDriven-item item valid first =
+      let added = IsAdded-appended item valid first in
+      record { some = some_behind (route lists v) item; visits = added.visits; distinct = added.distinct }
 
   -- ---- the choice
 
@@ -102,7 +110,8 @@ module _ (model : Model) (lists : List (List ℕ)) (v : ℕ) (built : AreBuilt m
         ∙ sym (is_open-local model lists v list (item_nodes item) built.are_open low (IsAdded-appended item valid first).nodes_are)
 
     seen-more : (candidates : List Candidate) (i : ℕ) (candidate : Candidate) → i < length candidates → get_or candidates i candidate ≡ candidate
-        → seen lists candidates (i + 1) ≡ seen lists candidates i ++ cond (not (is_active lists (first_node (item_nodes candidate.item)))) (item_nodes candidate.item ∷ []) []
+        → seen lists candidates (i + 1)
+        ≡ seen lists candidates i ++ cond (not (is_active lists (first_node (item_nodes candidate.item)))) (item_nodes candidate.item ∷ []) []
     seen-more candidates i candidate within is =
         let nodes = λ (candidate : Candidate). item_nodes candidate.item in
         let keep = λ (item : List ℕ). not (is_active lists (first_node item)) in
@@ -111,10 +120,13 @@ module _ (model : Model) (lists : List (List ℕ)) (v : ℕ) (built : AreBuilt m
         ∙ filter-append keep (map nodes (take i candidates)) (nodes candidate ∷ [])
 
     pub best-begin : (candidates : List Candidate) → IsBestOf model lists v candidates 0 None
-    best-begin candidates = IsBest-none nodes_of_choice (append_key model lists v) arc_key (λ item. is_open model (appended lists v item)) (λ choice. MayBeAppended model lists v choice.item)
+    best-begin candidates = IsBest-none nodes_of_choice (append_key model lists v) arc_key
+        (λ item. is_open model (appended lists v item)) (λ choice. MayBeAppended model lists v choice.item)
 
-    pub best-more : (candidates : List Candidate) (i : ℕ) (candidate : Candidate) (best chosen : Option ArcChoice) → i < length candidates → get_or candidates i candidate ≡ candidate
-        → IsCandidate model candidate → IsBestOf model lists v candidates i best → chosen ≡ chosen_beside model v (route lists v) marks candidate best → IsBestOf model lists v candidates (i + 1) chosen
+    pub best-more : (candidates : List Candidate) (i : ℕ) (candidate : Candidate) (best chosen : Option ArcChoice)
+        → i < length candidates → get_or candidates i candidate ≡ candidate
+        → IsCandidate model candidate → IsBestOf model lists v candidates i best
+        → chosen ≡ chosen_beside model v (route lists v) marks candidate best → IsBestOf model lists v candidates (i + 1) chosen
     best-more candidates i candidate best chosen within is valid before e = by (is_marked marks (first_node (item_nodes candidate.item))) refl
       where
         item : Item
@@ -133,30 +145,38 @@ module _ (model : Model) (lists : List (List ℕ)) (v : ℕ) (built : AreBuilt m
         passes = may_append model v (route lists v) marks candidate.item
 
         Best : Option ArcChoice → List (List ℕ) → Type 0
-        Best = IsBest nodes_of_choice (append_key model lists v) arc_key (λ item. is_open model (appended lists v item)) (λ choice. MayBeAppended model lists v choice.item)
+        Best = IsBest nodes_of_choice (append_key model lists v) arc_key
+            (λ item. is_open model (appended lists v item)) (λ choice. MayBeAppended model lists v choice.item)
 
         by : (b : Bool) → is_marked marks number ≡ b → IsBestOf model lists v candidates (i + 1) chosen
         by true marked =
             let same : seen lists candidates (i + 1) ≡ seen lists candidates i =
-            seen-more candidates i candidate within is ∙ ap (λ b. seen lists candidates i ++ cond (not b) (item_nodes candidate.item ∷ []) []) (sym active ∙ marked) ∙ append-nil (seen lists candidates i) in
+            seen-more candidates i candidate within is
+            ∙ ap (λ b. seen lists candidates i ++ cond (not b) (item_nodes candidate.item ∷ []) []) (sym active ∙ marked)
+            ∙ append-nil (seen lists candidates i) in
             let kept : chosen ≡ best = e ∙ ap (λ b. cond b best (cond passes (better arc_key best next) best)) marked in
             subst (λ c. Best c (seen lists candidates (i + 1))) (sym kept) (subst (Best best) (sym same) before)
         by false marked =
             let free : is_active lists number ≡ false = sym active ∙ marked in
             let longer : seen lists candidates (i + 1) ≡ seen lists candidates i ++ item_nodes candidate.item ∷ [] =
             seen-more candidates i candidate within is ∙ ap (λ b. seen lists candidates i ++ cond (not b) (item_nodes candidate.item ∷ []) []) free in
-            let decided : chosen ≡ cond passes (better arc_key best next) best = e ∙ ap (λ b. cond b best (cond passes (better arc_key best next) best)) marked in
+            let decided : chosen ≡ cond passes (better arc_key best next) best = e
+            ∙ ap (λ b. cond b best (cond passes (better arc_key best next) best)) marked in
             let test = tested candidate.item valid.item free in
-            let keyed : arc_key next ≡ append_key model lists v (item_nodes candidate.item) = ap (λ k. pos k ∷ arc_cost model v (tail_node model lists v) number ∷ pos number ∷ []) valid.class in
-            let more = IsBest-more nodes_of_choice (append_key model lists v) arc_key (λ item. is_open model (appended lists v item)) (λ choice. MayBeAppended model lists v choice.item)
+            let keyed : arc_key next ≡ append_key model lists v (item_nodes candidate.item) =
+            ap (λ k. pos k ∷ arc_cost model v (tail_node model lists v) number ∷ pos number ∷ []) valid.class in
+            let more = IsBest-more nodes_of_choice (append_key model lists v) arc_key
+            (λ item. is_open model (appended lists v item)) (λ choice. MayBeAppended model lists v choice.item)
             best next (seen lists candidates i) passes before keyed test (λ t. record { is_item = valid.item; inactive = free; stays_open = sym test ∙ t }) in
             subst (λ c. Best c (seen lists candidates (i + 1))) (sym decided) (subst (Best (cond passes (better arc_key best next) best)) (sym longer) more)
 
     -- after all candidates
-    pub best-end : (candidates : List Candidate) (i : ℕ) (best : Option ArcChoice) → AreCandidates model candidates → length candidates ≤ i → IsBestOf model lists v candidates i best
+    pub best-end : (candidates : List Candidate) (i : ℕ) (best : Option ArcChoice)
+        → AreCandidates model candidates → length candidates ≤ i → IsBestOf model lists v candidates i best
         → option_map item_nodes (option_map item_of_choice best) ≡ next_appended model lists v
     best-end candidates i best all high before =
-        let whole : seen lists candidates i ≡ unplaced model lists = ap (λ cs. filter (λ item. not (is_active lists (first_node item))) (map (λ candidate. item_nodes candidate.item) cs)) (take_all i candidates high)
+        let whole : seen lists candidates i ≡ unplaced model lists =
+        ap (λ cs. filter (λ item. not (is_active lists (first_node item))) (map (λ candidate. item_nodes candidate.item) cs)) (take_all i candidates high)
         ∙ ap (filter (λ item. not (is_active lists (first_node item)))) all.all in
         images best ∙ before.least ∙ ap (λ xs. least_by (append_key model lists v) (filter (λ item. is_open model (appended lists v item)) xs)) whole
       where
@@ -189,7 +209,8 @@ pub candidates-count : (model : Model) (candidates : List Candidate) → AreCand
 candidates-count model candidates all = sym (length-map candidates (λ candidate. item_nodes candidate.item)) ∙ ap length all.all
 
 -- one vehicle more
-pub all_filled-more : (model : Model) (v : ℕ) (lists : List (List ℕ)) → all_filled model (v + 1) lists ≡ filled model v (length (items model)) (all_filled model v lists)
+pub all_filled-more : (model : Model) (v : ℕ) (lists : List (List ℕ))
+    → all_filled model (v + 1) lists ≡ filled model v (length (items model)) (all_filled model v lists)
 all_filled-more model v lists =
     let Fill = λ (lists : List (List ℕ)) (v : ℕ). filled model v (length (items model)) lists in
     ap (fold Fill lists) (below-more v) ∙ fold-append Fill lists (below v) (v ∷ [])
@@ -199,6 +220,8 @@ pub whole-slice : {A : Type 0} (n : ℕ) (written rest : List A) → length writ
 whole-slice n written rest e = take-append-le n written rest (omega (arith, e)) ∙ take_all n written (omega (arith, e))
 
 -- the same where empty lists were filled
-pub whole-lists : (model : Model) (n : ℕ) (begun written rest : List (List ℕ)) → begun ≡ empty_lists model → length begun ≡ n → AreBuilt model written → take n (written ++ rest) ≡ written
+pub whole-lists : (model : Model) (n : ℕ) (begun written rest : List (List ℕ)) → begun ≡ empty_lists model
+    → length begun ≡ n → AreBuilt model written → take n (written ++ rest) ≡ written
 whole-lists model n begun written rest empty many built =
-    whole-slice n written rest (built-count model written built ∙ sym (built-count model begun (subst (AreBuilt model) (sym empty) (AreBuilt-empty model))) ∙ many)
+    whole-slice n written rest
+    (built-count model written built ∙ sym (built-count model begun (subst (AreBuilt model) (sym empty) (AreBuilt-empty model))) ∙ many)

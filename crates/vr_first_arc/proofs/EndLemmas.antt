@@ -1,5 +1,6 @@
 -- Each item that is appended leaves fewer items unplaced, so as many steps as there are items are enough.
-use Rattle.std.proofs.Common.{◌≡◌, ◌∙◌, ◌<◌, ◌≤◌, ◌++◌, ℕ, zero, suc, Bool, true, false, not, cond, List, [], ◌∷◌, length, Option, Some, None, inl, inr, refl, ap, sym, subst, arith}
+use Rattle.std.proofs.Common.{◌≡◌, ◌∙◌, ◌<◌, ◌≤◌, ◌++◌, ℕ, zero, suc, Bool, true, false, not, cond, List, [], ◌∷◌, length, Option, Some, None, inl, inr, refl}
+use Rattle.std.proofs.Common.{ap, sym, subst, arith}
 use Rattle.std.specs.Prelude.{◌||◌, ◌==◌, filter, MatchOption}
 use Rattle.std.proofs.lemmas.Bool.{eq-eqb}
 use Rattle.std.proofs.lemmas.List.{length-set}
@@ -27,7 +28,8 @@ module _ {A : Type 0} (p q : A → Bool) (less : (x : A) → q x ≡ true → p 
   no_more [] = omega arith
   no_more (x ∷ xs) = by (q x) refl (p x) refl (no_more xs)
     where
-      by : (b : Bool) → q x ≡ b → (c : Bool) → p x ≡ c → length (filter q xs) ≤ length (filter p xs) → length (cond b (x ∷ filter q xs) (filter q xs)) ≤ length (cond c (x ∷ filter p xs) (filter p xs))
+      by : (b : Bool) → q x ≡ b → (c : Bool) → p x ≡ c → length (filter q xs) ≤ length (filter p xs)
+          → length (cond b (x ∷ filter q xs) (filter q xs)) ≤ length (cond c (x ∷ filter p xs) (filter p xs))
       by true e true f h = omega (arith, h)
       by false e true f h = omega (arith, h)
       by false e false f h = h
@@ -37,7 +39,8 @@ module _ {A : Type 0} (p q : A → Bool) (less : (x : A) → q x ≡ true → p 
   fewer [] x h e = absurd h
   fewer (y ∷ ys) x h e = by (q y) refl (p y) refl h (λ g. fewer ys x g e) (no_more ys)
     where
-      by : (b : Bool) → q y ≡ b → (c : Bool) → p y ≡ c → In (cond c (y ∷ filter p ys) (filter p ys)) x → (In (filter p ys) x → length (filter q ys) < length (filter p ys)) → length (filter q ys) ≤ length (filter p ys)
+      by : (b : Bool) → q y ≡ b → (c : Bool) → p y ≡ c → In (cond c (y ∷ filter p ys) (filter p ys)) x
+          → (In (filter p ys) x → length (filter q ys) < length (filter p ys)) → length (filter q ys) ≤ length (filter p ys)
           → length (cond b (y ∷ filter q ys) (filter q ys)) < length (cond c (y ∷ filter p ys) (filter p ys))
       by true t true f (inl same) later most = absurd (clash (q x) (ap q same ∙ t) e)
       by true t true f (inr g) later most = let l = later g in omega (arith, l)
@@ -81,10 +84,12 @@ module _ (model : Model) (v : ℕ) where
   -- an unplaced item that is appended is placed, and what was active stays so
   fewer_left : (lists : List (List ℕ)) (item : List ℕ) → v < length lists → In (unplaced model lists) item → left (appended lists v item) < left lists
   fewer_left lists item low was =
-      fewer (λ other. not (is_active lists (first_node other))) (λ other. not (is_active (appended lists v item) (first_node other))) less (items model) item was (ap not there)
+      fewer (λ other. not (is_active lists (first_node other)))
+      (λ other. not (is_active (appended lists v item) (first_node other))) less (items model) item was (ap not there)
     where
       added : (node : ℕ) → is_active (appended lists v item) node ≡ (holds item node || is_active lists node)
-      added node = is_active-added lists v (route lists v ++ item) item node low (list_any-append (λ y. node == y) (route lists v) item ∙ or-turned (holds (route lists v) node) (holds item node))
+      added node = is_active-added lists v (route lists v ++ item) item node low
+          (list_any-append (λ y. node == y) (route lists v) item ∙ or-turned (holds (route lists v) node) (holds item node))
 
       first : holds item (first_node item) ≡ true
       first = has_first model item (of_filter (λ item. not (is_active lists (first_node item))) (items model) item was).0
@@ -108,7 +113,8 @@ module _ (model : Model) (v : ℕ) where
   next_unplaced : (lists : List (List ℕ)) (item : List ℕ) → next_appended model lists v ≡ Some item → In (unplaced model lists) item
   next_unplaced lists item e =
       let first : IsFirstLeast (append_key model lists v) (open_ones lists) item =
-      subst (λ o. MatchOption o (open_ones lists ≡ []) (IsFirstLeast (append_key model lists v) (open_ones lists))) e (least_first (append_key model lists v) (open_ones lists)) in
+      subst (λ o. MatchOption o (open_ones lists ≡ []) (IsFirstLeast (append_key model lists v) (open_ones lists)))
+      e (least_first (append_key model lists v) (open_ones lists)) in
       let there = of_contains (open_ones lists) item (first.place, first.in_list, first.stands_there item) in
       (of_filter (λ item. is_open model (appended lists v item)) (unplaced model lists) item there).0
 
@@ -120,7 +126,8 @@ module _ (model : Model) (v : ℕ) where
   ends zero lists low few = none_left lists (unplaced model lists) refl (omega (arith, few))
   ends (suc more) lists low few = by (next_appended model lists v) refl (λ new there less. ends more new there less)
     where
-      by : (o : Option (List ℕ)) → next_appended model lists v ≡ o → ((new : List (List ℕ)) → v < length new → left new ≤ more → next_appended model (filled model v more new) v ≡ None)
+      by : (o : Option (List ℕ)) → next_appended model lists v ≡ o
+          → ((new : List (List ℕ)) → v < length new → left new ≤ more → next_appended model (filled model v more new) v ≡ None)
           → next_appended model (elim o [ None ↦ lists | Some item ↦ filled model v more (appended lists v item) ]) v ≡ None
       by None e later = e
       by (Some item) e later =

@@ -1,5 +1,6 @@
 -- Each insertion leaves fewer items unplaced, so as many steps as there are items are enough.
-use Rattle.std.proofs.Common.{◌≡◌, ◌∙◌, ◌<◌, ◌≤◌, ℕ, zero, suc, Bool, true, false, not, cond, List, [], ◌∷◌, length, map, Option, Some, None, inl, inr, refl, ap, sym, subst, arith}
+use Rattle.std.proofs.Common.{◌≡◌, ◌∙◌, ◌<◌, ◌≤◌, ℕ, zero, suc, Bool, true, false, not, cond, List, [], ◌∷◌, length, map, Option, Some, None, inl, inr, refl}
+use Rattle.std.proofs.Common.{ap, sym, subst, arith}
 use Rattle.std.specs.Prelude.{◌||◌, ◌==◌, filter, MatchOption}
 use Rattle.std.proofs.lemmas.Bool.{eq-eqb}
 use Rattle.std.proofs.lemmas.List.Sums.{count_by-le-length, length-filter}
@@ -30,7 +31,8 @@ module _ {A : Type 0} (p q : A → Bool) (less : (x : A) → q x ≡ true → p 
   no_more [] = omega arith
   no_more (x ∷ xs) = by (q x) refl (p x) refl (no_more xs)
     where
-      by : (b : Bool) → q x ≡ b → (c : Bool) → p x ≡ c → length (filter q xs) ≤ length (filter p xs) → length (cond b (x ∷ filter q xs) (filter q xs)) ≤ length (cond c (x ∷ filter p xs) (filter p xs))
+      by : (b : Bool) → q x ≡ b → (c : Bool) → p x ≡ c → length (filter q xs) ≤ length (filter p xs)
+          → length (cond b (x ∷ filter q xs) (filter q xs)) ≤ length (cond c (x ∷ filter p xs) (filter p xs))
       by true e true f h = omega (arith, h)
       by false e true f h = omega (arith, h)
       by false e false f h = h
@@ -40,7 +42,8 @@ module _ {A : Type 0} (p q : A → Bool) (less : (x : A) → q x ≡ true → p 
   fewer [] x h e = absurd h
   fewer (y ∷ ys) x h e = by (q y) refl (p y) refl h (λ g. fewer ys x g e) (no_more ys)
     where
-      by : (b : Bool) → q y ≡ b → (c : Bool) → p y ≡ c → In (cond c (y ∷ filter p ys) (filter p ys)) x → (In (filter p ys) x → length (filter q ys) < length (filter p ys)) → length (filter q ys) ≤ length (filter p ys)
+      by : (b : Bool) → q y ≡ b → (c : Bool) → p y ≡ c → In (cond c (y ∷ filter p ys) (filter p ys)) x
+          → (In (filter p ys) x → length (filter q ys) < length (filter p ys)) → length (filter q ys) ≤ length (filter p ys)
           → length (cond b (y ∷ filter q ys) (filter q ys)) < length (cond c (y ∷ filter p ys) (filter p ys))
       by true t true f (inl same) later most = absurd (clash (q x) (ap q same ∙ t) e)
       by true t true f (inr g) later most = let l = later g in omega (arith, l)
@@ -84,25 +87,32 @@ module _ (model : Model) where
       kept = λ node e. added node ∙ (ap (λ b. holds (item_nodes (item_in placing)) node || b) e ∙ or-true (holds (item_nodes (item_in placing)) node));
     }
       where
-        added : (node : ℕ) → is_active (with_route lists v (placed (route lists v) placing)) node ≡ (holds (item_nodes (item_in placing)) node || is_active lists node)
-        added node = is_active-added lists v (placed (route lists v) placing) (item_nodes (item_in placing)) node low (placed-holds (route lists v) placing within node)
+        added : (node : ℕ)
+            → is_active (with_route lists v (placed (route lists v) placing)) node ≡ (holds (item_nodes (item_in placing)) node || is_active lists node)
+        added node =
+            is_active-added lists v (placed (route lists v) placing) (item_nodes (item_in placing)) node low (placed-holds (route lists v) placing within node)
 
-    put_one : (places : List ℕ) → In (map (λ t. t ∷ []) (gaps (route lists v))) places → ((t : ℕ) → places ≡ t ∷ [] → inserted_in (route lists v) item places ≡ placed (route lists v) (One (first_node item) t))
+    put_one : (places : List ℕ) → In (map (λ t. t ∷ []) (gaps (route lists v))) places
+        → ((t : ℕ) → places ≡ t ∷ [] → inserted_in (route lists v) item places ≡ placed (route lists v) (One (first_node item) t))
         → IsStep model lists (with_route lists v (inserted_in (route lists v) item places)) item
     put_one places h is = from_map (λ t. t ∷ []) (gaps (route lists v)) places h (λ t there same.
         subst (λ list. IsStep model lists (with_route lists v list) item) (sym (is t same))
-        (put (One (first_node item) t) (let l = of_below (suc (length (route lists v))) t there in omega (arith, l)) (ap (λ b. b || false) (eq-eqb (first_node item) (first_node item) refl))))
+        (put (One (first_node item) t) (let l = of_below (suc (length (route lists v))) t there in omega (arith, l))
+        (ap (λ b. b || false) (eq-eqb (first_node item) (first_node item) refl))))
 
-  put_in : (lists : List (List ℕ)) (v : ℕ) (item places : List ℕ) → v < length lists → In (unplaced model lists) item → In (places_for item (route lists v)) places
+  put_in : (lists : List (List ℕ)) (v : ℕ) (item places : List ℕ) → v < length lists
+      → In (unplaced model lists) item → In (places_for item (route lists v)) places
       → IsStep model lists (with_route lists v (inserted_in (route lists v) item places)) item
   put_in lists v [] places low was h = put_one lists v low [] was places h (λ t same. ap (inserted_in (route lists v) []) same)
   put_in lists v (n ∷ []) places low was h = put_one lists v low (n ∷ []) was places h (λ t same. ap (inserted_in (route lists v) (n ∷ [])) same)
-  put_in lists v (n ∷ m ∷ k ∷ rest) places low was h = put_one lists v low (n ∷ m ∷ k ∷ rest) was places h (λ t same. ap (inserted_in (route lists v) (n ∷ m ∷ k ∷ rest)) same)
+  put_in lists v (n ∷ m ∷ k ∷ rest) places low was h =
+      put_one lists v low (n ∷ m ∷ k ∷ rest) was places h (λ t same. ap (inserted_in (route lists v) (n ∷ m ∷ k ∷ rest)) same)
   put_in lists v (pickup ∷ delivery ∷ []) places low was h =
       from_each (λ s. map (λ t. s ∷ t ∷ []) (from_to s (suc (length (route lists v))))) (gaps (route lists v)) places h (λ s from more.
       from_map (λ t. s ∷ t ∷ []) (from_to s (suc (length (route lists v)))) places more (λ t there same.
       subst (λ ps. IsStep model lists (with_route lists v (inserted_in (route lists v) (pickup ∷ delivery ∷ []) ps)) (pickup ∷ delivery ∷ [])) (sym same)
-      (put lists v low (pickup ∷ delivery ∷ []) was (Two pickup delivery s t) (let r = of_from_to s (suc (length (route lists v))) t there in (r.0, (let l = r.1 in omega (arith, l))))
+      (put lists v low (pickup ∷ delivery ∷ []) was (Two pickup delivery s t)
+      (let r = of_from_to s (suc (length (route lists v))) t there in (r.0, (let l = r.1 in omega (arith, l))))
       (ap (λ b. b || ((pickup == delivery) || false)) (eq-eqb pickup pickup refl)))))
 
   -- what an insertion of the list of all insertions does
@@ -111,8 +121,10 @@ module _ (model : Model) where
 
   steps : (lists : List (List ℕ)) (insertion : Insertion) → In (insertions model lists) insertion → Steps lists insertion
   steps lists insertion h =
-      from_each (λ item. each (vehicles lists) λ v. map (λ places. record { item = item; vehicle = v; places = places }) (places_for item (route lists v))) (unplaced model lists) insertion h (λ item was more.
-      from_each (λ v. map (λ places. record { item = item; vehicle = v; places = places }) (places_for item (route lists v))) (vehicles lists) insertion more (λ v low rest.
+      from_each (λ item. each (vehicles lists) λ v. map (λ places. record { item = item; vehicle = v; places = places }) (places_for item (route lists v)))
+      (unplaced model lists) insertion h (λ item was more.
+      from_each (λ v. map (λ places. record { item = item; vehicle = v; places = places }) (places_for item (route lists v)))
+      (vehicles lists) insertion more (λ v low rest.
       from_map (λ places. record { item = item; vehicle = v; places = places }) (places_for item (route lists v)) insertion rest (λ places there same.
       subst (Steps lists) (sym same) (put_in lists v item places (of_below (length lists) v low) was there))))
 
@@ -124,13 +136,15 @@ module _ (model : Model) where
   next_steps : (lists : List (List ℕ)) (insertion : Insertion) → next_inserted model lists ≡ Some insertion → Steps lists insertion
   next_steps lists insertion e =
       let first : IsFirstLeast (insertion_key model lists) (open_ones lists) insertion =
-      subst (λ o. MatchOption o (open_ones lists ≡ []) (IsFirstLeast (insertion_key model lists) (open_ones lists))) e (least_first (insertion_key model lists) (open_ones lists)) in
+      subst (λ o. MatchOption o (open_ones lists ≡ []) (IsFirstLeast (insertion_key model lists) (open_ones lists)))
+      e (least_first (insertion_key model lists) (open_ones lists)) in
       let there = of_contains (open_ones lists) insertion (first.place, first.in_list, first.stands_there insertion) in
       steps lists insertion (of_filter (λ insertion. is_open model (inserted lists insertion)) (insertions model lists) insertion there).0
 
   none_left : (lists : List (List ℕ)) (xs : List (List ℕ)) → unplaced model lists ≡ xs → length xs ≡ 0 → next_inserted model lists ≡ None
   none_left lists [] e n =
-      ap (λ unplaced. least_by (insertion_key model lists) (filter (λ insertion. is_open model (inserted lists insertion)) (each unplaced λ item. each (vehicles lists) λ v.
+      ap (λ unplaced. least_by (insertion_key model lists)
+      (filter (λ insertion. is_open model (inserted lists insertion)) (each unplaced λ item. each (vehicles lists) λ v.
       map (λ places. record { item = item; vehicle = v; places = places }) (places_for item (route lists v))))) e
   none_left lists (x ∷ xs) e n = absurd (omega (arith, n))
 
@@ -138,10 +152,12 @@ module _ (model : Model) where
   ends zero lists few = none_left lists (unplaced model lists) refl (omega (arith, few))
   ends (suc more) lists few = by (next_inserted model lists) refl (λ new less. ends more new less)
     where
-      by : (o : Option Insertion) → next_inserted model lists ≡ o → ((new : List (List ℕ)) → left new ≤ more → next_inserted model (rebuilt model more new) ≡ None)
+      by : (o : Option Insertion) → next_inserted model lists ≡ o
+          → ((new : List (List ℕ)) → left new ≤ more → next_inserted model (rebuilt model more new) ≡ None)
           → next_inserted model (elim o [ None ↦ lists | Some insertion ↦ rebuilt model more (inserted lists insertion) ]) ≡ None
       by None e later = e
-      by (Some insertion) e later = later (inserted lists insertion) (let l = fewer_left lists (inserted lists insertion) insertion.item (next_steps lists insertion e) in omega (arith, l, few))
+      by (Some insertion) e later = later (inserted lists insertion)
+          (let l = fewer_left lists (inserted lists insertion) insertion.item (next_steps lists insertion e) in omega (arith, l, few))
 
   all_left : (lists : List (List ℕ)) → left lists ≤ length (items model)
   all_left lists =

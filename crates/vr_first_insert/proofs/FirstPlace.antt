@@ -1,5 +1,6 @@
 -- The first place at which a visit adds least: where it is taken, it is the best of all places.
-use Rattle.std.proofs.Common.{◌≡◌, ◌∙◌, ◌<◌, ◌≤◌, ◌+◌, ◌-◌, ℕ, zero, suc, List, Bool, true, false, cond, Option, Some, None, ℤ, pos, ◌+ℤ◌, ◌≤ℤ◌, refl, ap, sym, subst, inl, inr, arith, length}
+use Rattle.std.proofs.Common.{◌≡◌, ◌∙◌, ◌<◌, ◌≤◌, ◌+◌, ◌-◌, ℕ, zero, suc, List, Bool, true, false, cond, Option, Some, None, ℤ, pos, ◌+ℤ◌, ◌≤ℤ◌, refl, ap, sym}
+use Rattle.std.proofs.Common.{subst, inl, inr, arith, length}
 use Rattle.std.specs.Prelude.{◌&&◌, ◌||◌, fold, int_le, int_lt, map}
 use Rattle.std.proofs.lemmas.Bool.{cases_lt}
 use Rattle.std.proofs.lemmas.Int.{ints}
@@ -18,7 +19,8 @@ use Rattle.vr_first_insert.specs.Increases.{visit_increase}
 use Rattle.vr_first_insert.specs.Placings.{key_of, placed, visit_choice, weigh, IsFirstLeastPlace}
 use Rattle.vr_first_insert.proofs.InsertLemmas.{fold-one}
 
-first-less : (c : ℕ) (i j : ℤ) (tail : Bool) → (i +ℤ pos 1) ≤ℤ j → (int_lt (pos c) (pos c) || (int_le (pos c) (pos c) && (int_lt i j || (int_le i j && tail)))) ≡ true
+first-less : (c : ℕ) (i j : ℤ) (tail : Bool) → (i +ℤ pos 1) ≤ℤ j
+    → (int_lt (pos c) (pos c) || (int_le (pos c) (pos c) && (int_lt i j || (int_le i j && tail)))) ≡ true
 first-less c i j tail low = Prim.grind arith
 
 same-head : (x : ℤ) (b : Bool) → (int_lt x x || (int_le x x && b)) ≡ b
@@ -30,7 +32,8 @@ no-less x y true low e = absurd (cc)
 no-less x y false low e = Prim.grind arith
 
 not-less : (c n v t p : ℕ) (i j : ℤ) → i ≤ℤ j → p ≤ t
-    → (int_lt (pos c) (pos c) || (int_le (pos c) (pos c) && (int_lt j i || (int_le j i && (int_lt (pos n) (pos n) || (int_le (pos n) (pos n) && (int_lt (pos v) (pos v) || (int_le (pos v) (pos v) && (int_lt (pos t) (pos p) || (int_le (pos t) (pos p) && false)))))))))) ≡ false
+    → (int_lt (pos c) (pos c) || (int_le (pos c) (pos c) && (int_lt j i || (int_le j i && (int_lt (pos n) (pos n) || (int_le (pos n) (pos n)
+    && (int_lt (pos v) (pos v) || (int_le (pos v) (pos v) && (int_lt (pos t) (pos p) || (int_le (pos t) (pos p) && false)))))))))) ≡ false
 not-less c n v t p i j low late =
     same-head (pos c) _ ∙ no-less j i _ low (same-head (pos n) _ ∙ same-head (pos v) _ ∙ no-less (pos t) (pos p) false (below late) refl)
   where
@@ -55,7 +58,9 @@ least-one f = record {
 
 -- one number more
 pub least-more : (f : ℕ → ℤ) (n : ℕ) (at : Cheapest) (next : ℤ) → IsLeastOf f n at.place → at.least ≡ f at.place → next ≡ f n
-    → IsLeastOf f (n + 1) (cond (int_lt next at.least) (record { place = n; least = next }) at).place × ((cond (int_lt next at.least) (record { place = n; least = next }) at).least ≡ f (cond (int_lt next at.least) (record { place = n; least = next }) at).place)
+    → IsLeastOf f (n + 1) (cond (int_lt next at.least) (record { place = n; least = next }) at).place
+    × ((cond (int_lt next at.least) (record { place = n; least = next }) at).least
+    ≡ f (cond (int_lt next at.least) (record { place = n; least = next }) at).place)
 least-more f n at next is same here = by (int_lt next at.least) refl
   where
     less : (a b : ℤ) → int_lt a b ≡ true → (a +ℤ pos 1) ≤ℤ b
@@ -64,7 +69,8 @@ least-more f n at next is same here = by (int_lt next at.least) refl
     not_less : (a b : ℤ) → int_lt a b ≡ false → b ≤ℤ a
     not_less a b h = Prim.grind arith
 
-    by : (b : Bool) → int_lt next at.least ≡ b → IsLeastOf f (n + 1) (cond b (record { place = n; least = next }) at).place × ((cond b (record { place = n; least = next }) at).least ≡ f (cond b (record { place = n; least = next }) at).place)
+    by : (b : Bool) → int_lt next at.least ≡ b → IsLeastOf f (n + 1) (cond b (record { place = n; least = next }) at).place
+        × ((cond b (record { place = n; least = next }) at).least ≡ f (cond b (record { place = n; least = next }) at).place)
     by true h = (
       record {
         earlier = omega arith;
@@ -81,7 +87,9 @@ least-more f n at next is same here = by (int_lt next at.least) refl
         earlier = (let e = is.earlier in omega (arith, e));
         least = λ t low. elim (cases_lt t n) [
           | inl there ↦ is.least t there
-          | inr last ↦ (let at_n : t ≡ n = omega (arith, low, last) in let a = not_less next at.least h in subst (λ u. f at.place ≤ℤ f u) (sym at_n) (omega (arith, ints, a, same, here)))
+          | inr last ↦ (let at_n : t ≡ n = omega (arith, low, last) in
+              let a = not_less next at.least h in
+              subst (λ u. f at.place ≤ℤ f u) (sym at_n) (omega (arith, ints, a, same, here)))
         ];
         before = is.before;
       },
@@ -99,7 +107,8 @@ module _ (model : Model) (v : ℕ) (list : List ℕ) (class node place : ℕ) (i
   before t low = first-less class (visit_increase model v list node place) (visit_increase model v list node t) _ (is.before t low)
 
   -- and those behind it are not better
-  behind : (t : ℕ) → place ≤ t → t ≤ length list → improves key_of (Some (visit_choice model v list class node place)) (visit_choice model v list class node t) ≡ false
+  behind : (t : ℕ) → place ≤ t → t ≤ length list
+      → improves key_of (Some (visit_choice model v list class node place)) (visit_choice model v list class node t) ≡ false
   behind t late within = not-less class node v t place (visit_increase model v list node place) (visit_increase model v list node t) (is.least t within) late
 
   -- it stays better than the best so far
@@ -110,7 +119,8 @@ module _ (model : Model) (v : ℕ) (list : List ℕ) (class node place : ℕ) (i
       next : InsertionChoice
       next = visit_choice model v list class node t
 
-      picked : (b : Bool) (c : InsertionChoice) → is_lex_less (key_of (visit_choice model v list class node place)) (key_of c) ≡ true → is_lex_less (key_of (visit_choice model v list class node place)) (key_of (cond b next c)) ≡ true
+      picked : (b : Bool) (c : InsertionChoice) → is_lex_less (key_of (visit_choice model v list class node place)) (key_of c) ≡ true
+          → is_lex_less (key_of (visit_choice model v list class node place)) (key_of (cond b next c)) ≡ true
       picked true c h = before t low
       picked false c h = h
 
@@ -129,7 +139,8 @@ module _ (model : Model) (v : ℕ) (list : List ℕ) (class node place : ℕ) (i
       ap (λ ks. fold (weigh model list) best (map (visit_choice model v list class node) ks)) (below-more n)
       ∙ fold-one (weigh model list) best (visit_choice model v list class node) (below n) n
 
-  up_to : (best : Option InsertionChoice) (n : ℕ) → n ≤ place → improves key_of best (visit_choice model v list class node place) ≡ true → improves key_of (best_to best n) (visit_choice model v list class node place) ≡ true
+  up_to : (best : Option InsertionChoice) (n : ℕ) → n ≤ place → improves key_of best (visit_choice model v list class node place) ≡ true
+      → improves key_of (best_to best n) (visit_choice model v list class node place) ≡ true
   up_to best zero low less = less
   up_to best (suc n) low less =
       ap (λ k. improves key_of (best_to best k) (visit_choice model v list class node place)) (suc-is n)
@@ -139,9 +150,11 @@ module _ (model : Model) (v : ℕ) (list : List ℕ) (class node place : ℕ) (i
       suc-is : (n : ℕ) → suc n ≡ n + 1
       suc-is n = omega arith
 
-  module _ (best : Option InsertionChoice) (less : improves key_of best (visit_choice model v list class node place) ≡ true) (opens : is_route_open model v (placed list (One node place)) ≡ true) where
+  module _ (best : Option InsertionChoice) (less : improves key_of best (visit_choice model v list class node place) ≡ true)
+      (opens : is_route_open model v (placed list (One node place)) ≡ true) where
     here : best_to best (place + 1) ≡ Some (visit_choice model v list class node place)
-    here = one-more best place ∙ sym (taken key_of (best_to best place) (visit_choice model v list class node place) (is_route_open model v (placed list (One node place))) (up_to best place (omega arith) less) opens)
+    here = one-more best place ∙ sym (taken key_of (best_to best place) (visit_choice model v list class node place)
+        (is_route_open model v (placed list (One node place))) (up_to best place (omega arith) less) opens)
 
     on : (more : ℕ) → place + 1 + more ≤ length list + 1 → best_to best (place + 1 + more) ≡ Some (visit_choice model v list class node place)
     on zero within = let none : place + 1 + 0 ≡ place + 1 = omega arith in ap (best_to best) none ∙ here
@@ -150,7 +163,8 @@ module _ (model : Model) (v : ℕ) (list : List ℕ) (class node place : ℕ) (i
         let last : place + 1 + suc more ≡ (place + 1 + more) + 1 = omega arith in
         ap (best_to best) last ∙ one-more best (place + 1 + more)
         ∙ ap (λ b. weigh model list b (visit_choice model v list class node (place + 1 + more))) (on more (omega (arith, within)))
-        ∙ sym (untested key_of (Some (visit_choice model v list class node place)) (visit_choice model v list class node (place + 1 + more)) (is_route_open model v (placed list (One node (place + 1 + more))))
+        ∙ sym (untested key_of (Some (visit_choice model v list class node place))
+        (visit_choice model v list class node (place + 1 + more)) (is_route_open model v (placed list (One node (place + 1 + more))))
         (behind (place + 1 + more) (omega arith) (omega (arith, within))))
 
     -- it is the best of all places

@@ -19,7 +19,8 @@ each-weaker P Q f a [] h = tt
 each-weaker P Q f a (b ∷ bs) h = (f a b h.0, each-weaker P Q f b bs h.1)
 
 -- one node more between xs and zs
-each-inserted : (P : ℕ → ℕ → Type 0) (a : ℕ) (xs zs : List ℕ) (y e : ℕ) → EachGap P a (xs ++ (zs ++ e ∷ [])) → P (last_of a xs) y → P y (first_of zs e) → EachGap P a (xs ++ y ∷ (zs ++ e ∷ []))
+each-inserted : (P : ℕ → ℕ → Type 0) (a : ℕ) (xs zs : List ℕ) (y e : ℕ) → EachGap P a (xs ++ (zs ++ e ∷ []))
+    → P (last_of a xs) y → P y (first_of zs e) → EachGap P a (xs ++ y ∷ (zs ++ e ∷ []))
 unfolding last_of first_of
 each-inserted P a [] [] y e h before behind = (before, (behind, tt))
 each-inserted P a [] (z ∷ zs) y e h before behind = (before, (behind, h.1))
@@ -43,7 +44,8 @@ split : (list : List ℕ) (t e : ℕ) → list ++ e ∷ [] ≡ take t list ++ (d
 split list t e = ap (λ l. l ++ e ∷ []) (sym (take-append-drop t list)) ∙ append_assoc (take t list) (drop t list) (e ∷ [])
 
 -- it is the least before each place
-pub least-of-gaps : (model : Model) (v : ℕ) (list : List ℕ) (x : ℕ) (least : ℤ) → pos 0 ≤ℤ arc_cost model v (vehicle_at model v).start (vehicle_at model v).end → IsLeastGap model v list x least → VisitAddsAtLeast model v list x least
+pub least-of-gaps : (model : Model) (v : ℕ) (list : List ℕ) (x : ℕ) (least : ℤ)
+    → pos 0 ≤ℤ arc_cost model v (vehicle_at model v).start (vehicle_at model v).end → IsLeastGap model v list x least → VisitAddsAtLeast model v list x least
 least-of-gaps model v [] x least not_negative h zero within = let here = h.0 in omega (arith, ints, here, not_negative)
 least-of-gaps model v [] x least not_negative h (suc t) within = absurd (omega (arith, within))
 least-of-gaps model v (n ∷ ns) x least not_negative h t within =
@@ -52,7 +54,8 @@ least-of-gaps model v (n ∷ ns) x least not_negative h t within =
     let end : ℕ = (vehicle_at model v).end in
     subst (λ b. least ≤ℤ gap model v x (node_before model v list t) b) (first-dropped list t end)
     (subst (λ a. least ≤ℤ gap model v x a (first_of (drop t list) end)) (last-taken start list t within)
-    (gap-between (λ a b. least ≤ℤ gap model v x a b) start (take t list) (drop t list) end (subst (EachGap (λ a b. least ≤ℤ gap model v x a b) start) (split list t end) h)))
+    (gap-between (λ a b. least ≤ℤ gap model v x a b) start (take t list) (drop t list) end
+    (subst (EachGap (λ a b. least ≤ℤ gap model v x a b) start) (split list t end) h)))
 
 -- it stays so where a node is put before a place
 pub gaps-inserted : (model : Model) (v : ℕ) (list : List ℕ) (x y t : ℕ) (least less : ℤ) → IsLeastGap model v list x least → t ≤ length list → less ≤ℤ least
@@ -61,7 +64,8 @@ gaps-inserted model v list x y t least less h within low before behind =
     let P = λ (a b : ℕ). less ≤ℤ gap model v x a b in
     let start : ℕ = (vehicle_at model v).start in
     let end : ℕ = (vehicle_at model v).end in
-    let weaker : EachGap P start (list ++ end ∷ []) = each-weaker (λ a b. least ≤ℤ gap model v x a b) P (λ a b g. omega (arith, ints, g, low)) start (list ++ end ∷ []) h in
+    let weaker : EachGap P start (list ++ end ∷ []) = each-weaker (λ a b. least ≤ℤ gap model v x a b)
+    P (λ a b g. omega (arith, ints, g, low)) start (list ++ end ∷ []) h in
     subst (EachGap P start) (sym (append_assoc (take t list) (y ∷ drop t list) (end ∷ [])))
     (each-inserted P start (take t list) (drop t list) y end (subst (EachGap P start) (split list t end) weaker)
     (subst (λ a. less ≤ℤ gap model v x a y) (sym (last-taken start list t within)) before)

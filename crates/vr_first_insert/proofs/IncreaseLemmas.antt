@@ -1,5 +1,6 @@
 -- The arcs at the places of an insertion give what it adds to the arc costs of its vehicle.
-use Rattle.std.proofs.Common.{◌≡◌, ◌∙◌, ◌<◌, ◌≤◌, ◌-◌, ◌++◌, ◌≢◌, ℕ, zero, suc, List, [], ◌∷◌, Bool, true, false, cond, refl, ap, ap₂, sym, arith, length, take, drop, append_assoc, ℤ, pos}
+use Rattle.std.proofs.Common.{◌≡◌, ◌∙◌, ◌<◌, ◌≤◌, ◌-◌, ◌++◌, ◌≢◌, ℕ, zero, suc, List, [], ◌∷◌, Bool, true, false, cond, refl, ap, ap₂, sym, arith, length, take}
+use Rattle.std.proofs.Common.{drop, append_assoc, ℤ, pos}
 use Rattle.std.specs.Prelude.{◌+ℤ◌, ◌-ℤ◌, ◌==◌, slice_range, slice_index, slice_index_or}
 use Rattle.std.proofs.lemmas.Int.{ints}
 use Rattle.std.proofs.lemmas.Bool.{eqb-true}
@@ -46,7 +47,8 @@ first_of (y ∷ ys) end = y
 
 -- one node more on a path
 path-one : (c : ℕ → ℕ → ℤ) (at : ℕ) (xs ys : List ℕ) (x end : ℕ)
-    → path c at (xs ++ x ∷ (ys ++ end ∷ [])) ≡ path c at (xs ++ (ys ++ end ∷ [])) +ℤ ((c (last_of at xs) x +ℤ c x (first_of ys end)) -ℤ c (last_of at xs) (first_of ys end))
+    → path c at (xs ++ x ∷ (ys ++ end ∷ []))
+    ≡ path c at (xs ++ (ys ++ end ∷ [])) +ℤ ((c (last_of at xs) x +ℤ c x (first_of ys end)) -ℤ c (last_of at xs) (first_of ys end))
 unfolding path last_of first_of
 path-one c at [] [] x end = omega (arith, ints)
 path-one c at [] (y ∷ ys) x end = omega (arith, ints)
@@ -92,7 +94,8 @@ module _ (c : ℕ → ℕ → ℤ) (start end : ℕ) where
       some (x ∷ xs) ms ys d = refl
 
 -- the arc costs of a vehicle are the cost of its path
-route_cost-is : (model : Model) (v : ℕ) (list : List ℕ) → route_cost model v list ≡ cost (arc_cost model v) (vehicle_at model v).start (vehicle_at model v).end list
+route_cost-is : (model : Model) (v : ℕ) (list : List ℕ)
+    → route_cost model v list ≡ cost (arc_cost model v) (vehicle_at model v).start (vehicle_at model v).end list
 unfolding cost
 route_cost-is model v [] = refl
 route_cost-is model v (x ∷ xs) = path-is model v (vehicle_at model v).start ((x ∷ xs) ++ (vehicle_at model v).end ∷ [])
@@ -154,12 +157,14 @@ module _ (model : Model) (v : ℕ) where
   abbrev at_cost : List ℕ → ℤ
   at_cost list = cost (arc_cost model v) begin finish list
 
-  visit-used : (list : List ℕ) (x t : ℕ) → t ≤ length list → is_empty list ≡ false → visit_increase model v list x t ≡ at_cost (take t list ++ x ∷ drop t list) -ℤ at_cost list
+  visit-used : (list : List ℕ) (x t : ℕ) → t ≤ length list → is_empty list ≡ false
+      → visit_increase model v list x t ≡ at_cost (take t list ++ x ∷ drop t list) -ℤ at_cost list
   visit-used list x t h some =
       let whole = take-append-drop t list in
       let before : last_of begin (take t list) ≡ node_before model v list t = last-taken begin list t h in
       let behind : first_of (drop t list) finish ≡ node_behind model v list t = first-dropped list t finish in
-      let old : arc_cost_at model v list t ≡ arc_cost model v (node_before model v list t) (node_behind model v list t) = used_arc (is_empty list) (pos 0) (arc_cost model v (node_before model v list t) (node_behind model v list t)) some in
+      let old : arc_cost_at model v list t ≡ arc_cost model v (node_before model v list t) (node_behind model v list t) = used_arc (is_empty list)
+      (pos 0) (arc_cost model v (node_before model v list t) (node_behind model v list t)) some in
       let used : is_empty (take t list ++ drop t list) ≡ false = ap is_empty whole ∙ some in
       ap (detour model v (node_before model v list t) x (node_behind model v list t)) old
       ∙ (λ i. detour model v (sym before i) x (sym behind i) (arc_cost model v (sym before i) (sym behind i)))
@@ -178,58 +183,72 @@ module _ (model : Model) (v : ℕ) where
   -- ---- a pair
 
   pair-together : (list : List ℕ) (p d s : ℕ) → s ≤ length list → is_empty list ≡ false
-      → arc_cost model v (node_before model v list s) p +ℤ detour model v p d (node_behind model v list s) (arc_cost_at model v list s) ≡ at_cost (take s list ++ p ∷ d ∷ drop s list) -ℤ at_cost list
+      → arc_cost model v (node_before model v list s) p +ℤ detour model v p d (node_behind model v list s) (arc_cost_at model v list s)
+      ≡ at_cost (take s list ++ p ∷ d ∷ drop s list) -ℤ at_cost list
   unfolding first_of
   pair-together list p d s h some =
       let c = arc_cost model v in
       let whole = take-append-drop s list in
       let before : last_of begin (take s list) ≡ node_before model v list s = last-taken begin list s h in
       let behind : first_of (drop s list) finish ≡ node_behind model v list s = first-dropped list s finish in
-      let old : arc_cost_at model v list s ≡ c (node_before model v list s) (node_behind model v list s) = used_arc (is_empty list) (pos 0) (c (node_before model v list s) (node_behind model v list s)) some in
+      let old : arc_cost_at model v list s ≡ c (node_before model v list s) (node_behind model v list s) = used_arc (is_empty list)
+      (pos 0) (c (node_before model v list s) (node_behind model v list s)) some in
       let same : take s list ++ [] ≡ take s list = append-nil (take s list) in
       let two = cost-two c begin finish (take s list) [] (drop s list) p d (ap is_empty whole ∙ some) in
       let read = λ (a b h : ℕ). (((c a p +ℤ c p d) -ℤ c a d) +ℤ ((c b d +ℤ c d h) -ℤ c b h)) in
-      let placed_two : at_cost (take s list ++ p ∷ d ∷ drop s list) -ℤ at_cost (take s list ++ drop s list) ≡ read (node_before model v list s) (node_before model v list s) (node_behind model v list s) =
+      let placed_two : at_cost (take s list ++ p ∷ d ∷ drop s list) -ℤ at_cost (take s list ++ drop s list)
+      ≡ read (node_before model v list s) (node_before model v list s) (node_behind model v list s) =
       two ∙ (λ i. read (before i) ((ap (last_of begin) same ∙ before) i) (behind i)) in
       ap (λ z. c (node_before model v list s) p +ℤ detour model v p d (node_behind model v list s) z) old
-      ∙ together (c (node_before model v list s) p) (c p d) (c d (node_behind model v list s)) (c (node_before model v list s) (node_behind model v list s)) (c (node_before model v list s) d)
+      ∙ together (c (node_before model v list s) p) (c p d) (c d (node_behind model v list s))
+      (c (node_before model v list s) (node_behind model v list s)) (c (node_before model v list s) d)
       ∙ sym placed_two ∙ ap (λ l. at_cost (take s list ++ p ∷ d ∷ drop s list) -ℤ at_cost l) whole
     where
       together : (ap_ pd dh ah ad : ℤ) → ap_ +ℤ ((pd +ℤ dh) -ℤ ah) ≡ (((ap_ +ℤ pd) -ℤ ad) +ℤ ((ad +ℤ dh) -ℤ ah))
       together ap_ pd dh ah ad = omega (arith, ints)
 
   pair-apart : (list : List ℕ) (p d s t : ℕ) → s < t → t ≤ length list → is_empty list ≡ false
-      → visit_increase model v list p s +ℤ visit_increase model v list d t ≡ at_cost (take s list ++ p ∷ (slice_range list s t ++ d ∷ drop t list)) -ℤ at_cost list
+      → visit_increase model v list p s +ℤ visit_increase model v list d t
+      ≡ at_cost (take s list ++ p ∷ (slice_range list s t ++ d ∷ drop t list)) -ℤ at_cost list
   pair-apart list p d s t low high some =
       let c = arc_cost model v in
       let order : s ≤ t = omega (arith, low) in
       let whole = split-three list s t order in
       let before_s : last_of begin (take s list) ≡ node_before model v list s = last-taken begin list s (omega (arith, low, high)) in
-      let behind_s : first_of (slice_range list s t ++ d ∷ drop t list) finish ≡ node_behind model v list s = first-between list (d ∷ drop t list) s t finish low high in
-      let before_t : last_of begin (take s list ++ slice_range list s t) ≡ node_before model v list t = ap (last_of begin) (take-split list s t order) ∙ last-taken begin list t high in
+      let behind_s : first_of (slice_range list s t ++ d ∷ drop t list) finish ≡ node_behind model v list s = first-between list
+      (d ∷ drop t list) s t finish low high in
+      let before_t : last_of begin (take s list ++ slice_range list s t) ≡ node_before model v list t = ap (last_of begin) (take-split list s t order)
+      ∙ last-taken begin list t high in
       let behind_t : first_of (drop t list) finish ≡ node_behind model v list t = first-dropped list t finish in
-      let old_s : arc_cost_at model v list s ≡ c (node_before model v list s) (node_behind model v list s) = used_arc (is_empty list) (pos 0) (c (node_before model v list s) (node_behind model v list s)) some in
-      let old_t : arc_cost_at model v list t ≡ c (node_before model v list t) (node_behind model v list t) = used_arc (is_empty list) (pos 0) (c (node_before model v list t) (node_behind model v list t)) some in
+      let old_s : arc_cost_at model v list s ≡ c (node_before model v list s) (node_behind model v list s) = used_arc (is_empty list)
+      (pos 0) (c (node_before model v list s) (node_behind model v list s)) some in
+      let old_t : arc_cost_at model v list t ≡ c (node_before model v list t) (node_behind model v list t) = used_arc (is_empty list)
+      (pos 0) (c (node_before model v list t) (node_behind model v list t)) some in
       let two = cost-two c begin finish (take s list) (slice_range list s t) (drop t list) p d (ap is_empty whole ∙ some) in
-      (λ i. detour model v (node_before model v list s) p (node_behind model v list s) (old_s i) +ℤ detour model v (node_before model v list t) d (node_behind model v list t) (old_t i))
-      ∙ (λ i. detour model v (sym before_s i) p (sym behind_s i) (c (sym before_s i) (sym behind_s i)) +ℤ detour model v (sym before_t i) d (sym behind_t i) (c (sym before_t i) (sym behind_t i)))
+      (λ i. detour model v (node_before model v list s) p (node_behind model v list s) (old_s i)
+      +ℤ detour model v (node_before model v list t) d (node_behind model v list t) (old_t i))
+      ∙ (λ i. detour model v (sym before_s i) p (sym behind_s i) (c (sym before_s i) (sym behind_s i))
+      +ℤ detour model v (sym before_t i) d (sym behind_t i) (c (sym before_t i) (sym behind_t i)))
       ∙ sym two ∙ ap (λ l. at_cost (take s list ++ p ∷ (slice_range list s t ++ d ∷ drop t list)) -ℤ at_cost l) whole
 
   pair-used : (list : List ℕ) (p d s t : ℕ) → s ≤ t → t ≤ length list → is_empty list ≡ false
       → pair_increase model v list p d s t ≡ at_cost (take s list ++ p ∷ (slice_range list s t ++ d ∷ drop t list)) -ℤ at_cost list
   pair-used list p d s t order high some = by (s == t) refl
     where
-      by : (b : Bool) → (s == t) ≡ b → pair_increase model v list p d s t ≡ at_cost (take s list ++ p ∷ (slice_range list s t ++ d ∷ drop t list)) -ℤ at_cost list
+      by : (b : Bool) → (s == t) ≡ b
+          → pair_increase model v list p d s t ≡ at_cost (take s list ++ p ∷ (slice_range list s t ++ d ∷ drop t list)) -ℤ at_cost list
       by true e =
           let same : s ≡ t = eqb-true s t e in
           let none : t - s ≡ 0 = omega (arith, same) in
-          ap (λ b. cond b (arc_cost model v (node_before model v list s) p +ℤ detour model v p d (node_behind model v list s) (arc_cost_at model v list s)) (visit_increase model v list p s +ℤ visit_increase model v list d t)) e
+          ap (λ b. cond b (arc_cost model v (node_before model v list s) p +ℤ detour model v p d (node_behind model v list s) (arc_cost_at model v list s))
+          (visit_increase model v list p s +ℤ visit_increase model v list d t)) e
           ∙ pair-together list p d s (omega (arith, order, high)) some
           ∙ sym (ap (λ n. at_cost (take s list ++ p ∷ (take n (drop s list) ++ d ∷ drop s list)) -ℤ at_cost list) none)
           ∙ ap (λ k. at_cost (take s list ++ p ∷ (slice_range list s t ++ d ∷ drop k list)) -ℤ at_cost list) same
       by false e =
           let low : s < t = omega (arith, order, differ s t e) in
-          ap (λ b. cond b (arc_cost model v (node_before model v list s) p +ℤ detour model v p d (node_behind model v list s) (arc_cost_at model v list s)) (visit_increase model v list p s +ℤ visit_increase model v list d t)) e
+          ap (λ b. cond b (arc_cost model v (node_before model v list s) p +ℤ detour model v p d (node_behind model v list s) (arc_cost_at model v list s))
+          (visit_increase model v list p s +ℤ visit_increase model v list d t)) e
           ∙ pair-apart list p d s t low high some
         where
           differ : (s t : ℕ) → (s == t) ≡ false → s ≢ t
@@ -247,7 +266,8 @@ module _ (model : Model) (v : ℕ) where
   pair-is (y ∷ ys) p d s t order high = pair-used (y ∷ ys) p d s t order high refl
 
 -- what a placing adds is what the arc costs of the vehicle are more
-pub increase-is : (model : Model) (v : ℕ) (list : List ℕ) (placing : Placing) → AreWithin list placing → increase_of model v list placing ≡ route_cost model v (placed list placing) -ℤ route_cost model v list
+pub increase-is : (model : Model) (v : ℕ) (list : List ℕ) (placing : Placing) → AreWithin list placing
+    → increase_of model v list placing ≡ route_cost model v (placed list placing) -ℤ route_cost model v list
 increase-is model v list (One n t) within =
     visit-is model v list n t within
     ∙ sym (ap₂ (λ a b. a -ℤ b) (route_cost-is model v (placed list (One n t))) (route_cost-is model v list))

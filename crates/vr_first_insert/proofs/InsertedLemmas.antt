@@ -38,7 +38,8 @@ visit_back list t x le =
     }
 
 -- a pair put in is its delivery put into the list with the pickup
-pub pair_is : (pair : Pair) (list : List ℕ) (s t : ℕ) → s ≤ t → t ≤ length list → with_pair pair s t list ≡ insert (insert list s pair.pickup) (suc t) pair.delivery
+pub pair_is : (pair : Pair) (list : List ℕ) (s t : ℕ) → s ≤ t → t ≤ length list
+    → with_pair pair s t list ≡ insert (insert list s pair.pickup) (suc t) pair.delivery
 pair_is pair list zero t order le =
     let e : t - 0 ≡ t = omega arith in
     ap (λ n. pair.pickup ∷ (take n list ++ (pair.delivery ∷ drop t list))) e
@@ -50,14 +51,16 @@ pair_is pair (y ∷ ys) (suc s) (suc t) order le =
     ∙ ap (λ l. y ∷ l) (pair_is pair ys s t (omega (arith, order)) (omega (arith, le)))
 
 -- it shares the nodes up to the delivery with the list with the pickup
-pub pair_front : (pair : Pair) (list : List ℕ) (s t u : ℕ) → s ≤ u → u ≤ t → t ≤ length list → SharesFront (insert list s pair.pickup) (with_pair pair s t list) (u + 1)
+pub pair_front : (pair : Pair) (list : List ℕ) (s t u : ℕ) → s ≤ u → u ≤ t → t ≤ length list
+    → SharesFront (insert list s pair.pickup) (with_pair pair s t list) (u + 1)
 pair_front pair list s t u low order le =
     let half : List ℕ = insert list s pair.pickup in
     let n = length-insert list s pair.pickup (omega (arith, low, order, le)) in
     let one : u + 1 ≡ suc u = omega arith in
     let longer = length-insert half (suc t) pair.delivery (omega (arith, n, le)) in
     subst (λ new. SharesFront half new (u + 1)) (sym (pair_is pair list s t (omega (arith, low, order)) le)) (record {
-      same = ap (λ k. take k half) one ∙ taken_less half (suc u) (suc t) pair.delivery (omega (arith, order)) (omega (arith, n, le)) ∙ sym (ap (λ k. take k (insert half (suc t) pair.delivery)) one);
+      same = ap (λ k. take k half) one ∙ taken_less half (suc u) (suc t) pair.delivery (omega (arith, order)) (omega (arith, n, le))
+          ∙ sym (ap (λ k. take k (insert half (suc t) pair.delivery)) one);
       within_old = omega (arith, n, order, le);
       within_new = omega (arith, longer, n, order, le);
     })

@@ -7,13 +7,15 @@ use Rattle.vr_model.specs.first.Choosing.{better, least_by}
 
 -- ---- the order of keys
 
-after-step : (x y z : ℤ) (p q r : Bool) → (p ≡ true → q ≡ true → r ≡ true) → (int_lt x y || (int_le x y && p)) ≡ true → (int_lt y z || (int_le y z && q)) ≡ true → (int_lt x z || (int_le x z && r)) ≡ true
+after-step : (x y z : ℤ) (p q r : Bool) → (p ≡ true → q ≡ true → r ≡ true) → (int_lt x y || (int_le x y && p)) ≡ true
+    → (int_lt y z || (int_le y z && q)) ≡ true → (int_lt x z || (int_le x z && r)) ≡ true
 after-step x y z true true true f h g = Prim.grind arith
 after-step x y z true true false f h g = absurd (let e = f refl refl in cc)
 after-step x y z true false r f h g = Prim.grind arith
 after-step x y z false q r f h g = Prim.grind arith
 
-not-step : (x y z : ℤ) (p q r : Bool) → (p ≡ false → q ≡ false → r ≡ false) → (int_lt x y || (int_le x y && p)) ≡ false → (int_lt y z || (int_le y z && q)) ≡ false → (int_lt x z || (int_le x z && r)) ≡ false
+not-step : (x y z : ℤ) (p q r : Bool) → (p ≡ false → q ≡ false → r ≡ false) → (int_lt x y || (int_le x y && p)) ≡ false
+    → (int_lt y z || (int_le y z && q)) ≡ false → (int_lt x z || (int_le x z && r)) ≡ false
 not-step x y z false false false f h g = Prim.grind arith
 not-step x y z false false true f h g = absurd (let e = f refl refl in cc)
 not-step x y z false true r f h g = Prim.grind arith
@@ -58,7 +60,8 @@ module _ {A : Type 0} (key : A → List ℤ) where
   -- the best so far beside a list is the better of it and the least of the list
   pub fold-merged : (best : Option A) (ys : List A) → fold (better key) best ys ≡ merged_best key best (least_by key ys)
   fold-merged best [] = refl
-  fold-merged best (y ∷ ys) = fold-merged (better key best y) ys ∙ merged-better best (least_by key ys) y ∙ ap (merged_best key best) (sym (fold-merged (Some y) ys))
+  fold-merged best (y ∷ ys) = fold-merged (better key best y) ys
+      ∙ merged-better best (least_by key ys) y ∙ ap (merged_best key best) (sym (fold-merged (Some y) ys))
 
   -- the least of all is the better of the leasts
   pub least_by-append : (xs ys : List A) → least_by key (xs ++ ys) ≡ merged_best key (least_by key xs) (least_by key ys)
@@ -66,14 +69,17 @@ module _ {A : Type 0} (key : A → List ℤ) where
 
   -- the same for a best that only entries that pass a test improve
   pub weighed-merged : (passes : A → Bool) (best : Option A) (ys : List A)
-      → fold (λ best y. cond (passes y) (better key best y) best) best ys ≡ merged_best key best (fold (λ best y. cond (passes y) (better key best y) best) None ys)
+      → fold (λ best y. cond (passes y) (better key best y) best) best ys
+      ≡ merged_best key best (fold (λ best y. cond (passes y) (better key best y) best) None ys)
   weighed-merged passes best [] = refl
-  weighed-merged passes best (y ∷ ys) = by (passes y) refl (weighed-merged passes (better key best y) ys) (weighed-merged passes (Some y) ys) (weighed-merged passes best ys)
+  weighed-merged passes best (y ∷ ys) =
+      by (passes y) refl (weighed-merged passes (better key best y) ys) (weighed-merged passes (Some y) ys) (weighed-merged passes best ys)
     where
       all : Option A → Option A
       all best = fold (λ best y. cond (passes y) (better key best y) best) best ys
 
-      by : (b : Bool) → passes y ≡ b → all (better key best y) ≡ merged_best key (better key best y) (all None) → all (Some y) ≡ merged_best key (Some y) (all None) → all best ≡ merged_best key best (all None)
+      by : (b : Bool) → passes y ≡ b → all (better key best y) ≡ merged_best key (better key best y) (all None)
+          → all (Some y) ≡ merged_best key (Some y) (all None) → all best ≡ merged_best key best (all None)
           → all (cond b (better key best y) best) ≡ merged_best key best (all (cond b (Some y) None))
       by true e here one rest = here ∙ merged-better best (all None) y ∙ ap (merged_best key best) (sym one)
       by false e here one rest = rest

@@ -18,11 +18,14 @@ module _ (model : Model) (lists : List (List ℕ)) (choice : InsertionChoice) (b
 
   -- the lists stay open
   pub made-built : AreBuilt model (with_route lists choice.vehicle (placed (route lists choice.vehicle) choice.placing))
-  made-built = AreBuilt-added model lists choice.vehicle (item_nodes (item_in choice.placing)) (placed (route lists choice.vehicle) choice.placing) built made-added
+  made-built =
+      AreBuilt-added model lists choice.vehicle (item_nodes (item_in choice.placing)) (placed (route lists choice.vehicle) choice.placing) built made-added
       (ap (is_open model) (sym (inserted-choice lists choice)) ∙ may.stays_open)
 
   -- the marks are those of the lists, where the nodes of the item are marked too
-  pub made-marks : (marks new : List Bool) → AreMarks model.nodes lists marks → length new ≡ length marks → AreMarkedToo marks (item_nodes (item_in choice.placing)) new
+  pub made-marks : (marks new : List Bool) → AreMarks model.nodes lists marks
+      → length new ≡ length marks → AreMarkedToo marks (item_nodes (item_in choice.placing)) new
       → AreMarks model.nodes (with_route lists choice.vehicle (placed (route lists choice.vehicle) choice.placing)) new
   made-marks marks new are count too =
-      AreMarks-added model lists choice.vehicle (placed (route lists choice.vehicle) choice.placing) (item_nodes (item_in choice.placing)) marks new are may.vehicle made-added.nodes_are count too
+      AreMarks-added model lists choice.vehicle (placed (route lists choice.vehicle) choice.placing)
+      (item_nodes (item_in choice.placing)) marks new are may.vehicle made-added.nodes_are count too

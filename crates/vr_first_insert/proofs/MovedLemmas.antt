@@ -5,7 +5,8 @@ use Rattle.std.specs.List.{swap}
 use Rattle.std.proofs.lemmas.List.Edits.{length-insert, swap_is}
 
 -- it changes places with the node behind it
-moved-by : (xs : List ℕ) (t x : ℕ) → t < length xs → set (set (insert xs t x) t (get_or (insert xs t x) (suc t) 0)) (suc t) (get_or (insert xs t x) t 0) ≡ insert xs (suc t) x
+moved-by : (xs : List ℕ) (t x : ℕ) → t < length xs
+    → set (set (insert xs t x) t (get_or (insert xs t x) (suc t) 0)) (suc t) (get_or (insert xs t x) t 0) ≡ insert xs (suc t) x
 moved-by [] t x low = absurd (omega (arith, low))
 moved-by (y ∷ ys) zero x low = refl
 moved-by (y ∷ ys) (suc t) x low = ap (λ l. y ∷ l) (moved-by ys t x (omega (arith, low)))

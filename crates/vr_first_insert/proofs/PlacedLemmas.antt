@@ -33,8 +33,10 @@ one-distinct : (xs zs : List ℕ) (n : ℕ) → is_distinct (xs ++ zs) ≡ true 
 one-distinct [] zs n d absent = ap₂ (λ a b. not a && b) absent d
 one-distinct (y ∷ ys) zs n d absent =
     let other : (y == n) ≡ false = eq_turned y n ∙ or-false_left (n == y) (holds (ys ++ zs) n) absent in
-    let here : holds (ys ++ n ∷ zs) y ≡ false = one-holds ys zs n y ∙ ap₂ (λ a b. a || b) other (fails_not (holds (ys ++ zs) y) (and_left (not (holds (ys ++ zs) y)) (is_distinct (ys ++ zs)) d)) in
-    ap₂ (λ a b. not a && b) here (one-distinct ys zs n (and_right (not (holds (ys ++ zs) y)) (is_distinct (ys ++ zs)) d) (or-false_right (n == y) (holds (ys ++ zs) n) absent))
+    let here : holds (ys ++ n ∷ zs) y ≡ false = one-holds ys zs n y
+    ∙ ap₂ (λ a b. a || b) other (fails_not (holds (ys ++ zs) y) (and_left (not (holds (ys ++ zs) y)) (is_distinct (ys ++ zs)) d)) in
+    ap₂ (λ a b. not a && b) here
+    (one-distinct ys zs n (and_right (not (holds (ys ++ zs) y)) (is_distinct (ys ++ zs)) d) (or-false_right (n == y) (holds (ys ++ zs) n) absent))
 
 swap-and : (a b c : Bool) → a ≡ true → (b && c) ≡ true → (b && (a && c)) ≡ true
 swap-and a b c e h = ap (λ a. b && (a && c)) e ∙ h
@@ -47,20 +49,25 @@ one-all p xs zs n e h = list_all-append p xs (n ∷ zs) ∙ swap-and (p n) (list
 two-holds : (xs ms zs : List ℕ) (p d x : ℕ) → holds (xs ++ p ∷ (ms ++ d ∷ zs)) x ≡ ((x == p) || ((x == d) || holds (xs ++ (ms ++ zs)) x))
 two-holds xs ms zs p d x =
     one-holds xs (ms ++ d ∷ zs) p x
-    ∙ ap (λ b. (x == p) || b) (ap (λ l. holds l x) (sym (append_assoc xs ms (d ∷ zs))) ∙ one-holds (xs ++ ms) zs d x ∙ ap (λ l. (x == d) || holds l x) (append_assoc xs ms zs))
+    ∙ ap (λ b. (x == p) || b)
+    (ap (λ l. holds l x) (sym (append_assoc xs ms (d ∷ zs))) ∙ one-holds (xs ++ ms) zs d x ∙ ap (λ l. (x == d) || holds l x) (append_assoc xs ms zs))
 
-two-distinct : (xs ms zs : List ℕ) (p d : ℕ) → is_distinct (xs ++ (ms ++ zs)) ≡ true → holds (xs ++ (ms ++ zs)) p ≡ false → holds (xs ++ (ms ++ zs)) d ≡ false → (p == d) ≡ false
+two-distinct : (xs ms zs : List ℕ) (p d : ℕ) → is_distinct (xs ++ (ms ++ zs)) ≡ true
+    → holds (xs ++ (ms ++ zs)) p ≡ false → holds (xs ++ (ms ++ zs)) d ≡ false → (p == d) ≡ false
     → is_distinct (xs ++ p ∷ (ms ++ d ∷ zs)) ≡ true
 two-distinct xs ms zs p d e no_p no_d other =
     let group : (xs ++ ms) ++ zs ≡ xs ++ (ms ++ zs) = append_assoc xs ms zs in
     let inner : is_distinct (xs ++ (ms ++ d ∷ zs)) ≡ true = ap is_distinct (sym (append_assoc xs ms (d ∷ zs)))
     ∙ one-distinct (xs ++ ms) zs d (ap is_distinct group ∙ e) (ap (λ l. holds l d) group ∙ no_d) in
-    let absent : holds (xs ++ (ms ++ d ∷ zs)) p ≡ false = ap (λ l. holds l p) (sym (append_assoc xs ms (d ∷ zs))) ∙ one-holds (xs ++ ms) zs d p ∙ ap₂ (λ a b. a || b) other (ap (λ l. holds l p) group ∙ no_p) in
+    let absent : holds (xs ++ (ms ++ d ∷ zs)) p ≡ false = ap (λ l. holds l p) (sym (append_assoc xs ms (d ∷ zs)))
+    ∙ one-holds (xs ++ ms) zs d p ∙ ap₂ (λ a b. a || b) other (ap (λ l. holds l p) group ∙ no_p) in
     one-distinct xs (ms ++ d ∷ zs) p inner absent
 
-two-all : (q : ℕ → Bool) (xs ms zs : List ℕ) (p d : ℕ) → q p ≡ true → q d ≡ true → list_all q (xs ++ (ms ++ zs)) ≡ true → list_all q (xs ++ p ∷ (ms ++ d ∷ zs)) ≡ true
+two-all : (q : ℕ → Bool) (xs ms zs : List ℕ) (p d : ℕ) → q p ≡ true → q d ≡ true
+    → list_all q (xs ++ (ms ++ zs)) ≡ true → list_all q (xs ++ p ∷ (ms ++ d ∷ zs)) ≡ true
 two-all q xs ms zs p d e f h =
-    one-all q xs (ms ++ d ∷ zs) p e (ap (list_all q) (sym (append_assoc xs ms (d ∷ zs))) ∙ one-all q (xs ++ ms) zs d f (ap (list_all q) (append_assoc xs ms zs) ∙ h))
+    one-all q xs (ms ++ d ∷ zs) p e
+    (ap (list_all q) (sym (append_assoc xs ms (d ∷ zs))) ∙ one-all q (xs ++ ms) zs d f (ap (list_all q) (append_assoc xs ms zs) ∙ h))
 
 -- ---- an item placed
 
@@ -76,7 +83,8 @@ regroup-one : (a c : Bool) → (a || c) ≡ ((a || false) || c)
 regroup-one true c = refl
 regroup-one false c = refl
 
-pub placed-holds : (list : List ℕ) (placing : Placing) → AreWithin list placing → (x : ℕ) → holds (placed list placing) x ≡ (holds (item_nodes (item_in placing)) x || holds list x)
+pub placed-holds : (list : List ℕ) (placing : Placing) → AreWithin list placing → (x : ℕ)
+    → holds (placed list placing) x ≡ (holds (item_nodes (item_in placing)) x || holds list x)
 placed-holds list (One n t) within x =
     one-holds (take t list) (drop t list) n x ∙ ap (λ l. (x == n) || holds l x) (take-append-drop t list) ∙ regroup-one (x == n) (holds list x)
 placed-holds list (Two p d s t) within x =
@@ -97,25 +105,30 @@ second-there x y = ap (λ a. (x == y) || (a || false)) (eq-eqb x x refl) ∙ las
 apart : (p d : ℕ) → is_distinct (p ∷ d ∷ []) ≡ true → (p == d) ≡ false
 apart p d h = or-false_left (p == d) false (fails_not ((p == d) || false) (and_left (not ((p == d) || false)) true h))
 
-pub placed-visits : (model : Model) (list : List ℕ) (placing : Placing) → AreWithin list placing → MayHold model list (item_in placing) → list_all (is_visit model) (placed list placing) ≡ true
+pub placed-visits : (model : Model) (list : List ℕ) (placing : Placing) → AreWithin list placing
+    → MayHold model list (item_in placing) → list_all (is_visit model) (placed list placing) ≡ true
 placed-visits model list (One n t) within may =
-    one-all (is_visit model) (take t list) (drop t list) n (and_left (is_visit model n) true may.nodes.visits) (ap (list_all (is_visit model)) (take-append-drop t list) ∙ may.visits)
+    one-all (is_visit model) (take t list) (drop t list) n (and_left (is_visit model n) true may.nodes.visits)
+    (ap (list_all (is_visit model)) (take-append-drop t list) ∙ may.visits)
 placed-visits model list (Two p d s t) within may =
     two-all (is_visit model) (take s list) (slice_range list s t) (drop t list) p d
     (and_left (is_visit model p) _ may.nodes.visits) (and_left (is_visit model d) true (and_right (is_visit model p) _ may.nodes.visits))
     (ap (list_all (is_visit model)) (split-three list s t within.0) ∙ may.visits)
 
-pub placed-distinct : (model : Model) (list : List ℕ) (placing : Placing) → AreWithin list placing → MayHold model list (item_in placing) → is_distinct (placed list placing) ≡ true
+pub placed-distinct : (model : Model) (list : List ℕ) (placing : Placing) → AreWithin list placing
+    → MayHold model list (item_in placing) → is_distinct (placed list placing) ≡ true
 placed-distinct model list (One n t) within may =
     let whole = take-append-drop t list in
     one-distinct (take t list) (drop t list) n (ap is_distinct whole ∙ may.distinct) (ap (λ l. holds l n) whole ∙ may.absent n (first-there n false))
 placed-distinct model list (Two p d s t) within may =
     let whole = split-three list s t within.0 in
     two-distinct (take s list) (slice_range list s t) (drop t list) p d (ap is_distinct whole ∙ may.distinct)
-    (ap (λ l. holds l p) whole ∙ may.absent p (first-there p ((p == d) || false))) (ap (λ l. holds l d) whole ∙ may.absent d (second-there d p)) (apart p d may.nodes.distinct)
+    (ap (λ l. holds l p) whole ∙ may.absent p (first-there p ((p == d) || false))) (ap (λ l. holds l d) whole ∙ may.absent d (second-there d p))
+    (apart p d may.nodes.distinct)
 
 -- an item that stands in no list may be put into each
-pub MayHold-inactive : (model : Model) (lists : List (List ℕ)) (v : ℕ) (item : Item) → AreBuilt model lists → IsItem model item → is_active lists (first_node (item_nodes item)) ≡ false → MayHold model (route lists v) item
+pub MayHold-inactive : (model : Model) (lists : List (List ℕ)) (v : ℕ) (item : Item) → AreBuilt model lists
+    → IsItem model item → is_active lists (first_node (item_nodes item)) ≡ false → MayHold model (route lists v) item
 MayHold-inactive model lists v item built valid first = record {
   visits = built-visits model lists v built;
   distinct = built-distinct model lists v built;
@@ -124,7 +137,8 @@ MayHold-inactive model lists v item built valid first = record {
 }
 
 -- the list with the item is one with nodes added
-pub IsAdded-placed : (model : Model) (lists : List (List ℕ)) (v : ℕ) (placing : Placing) → AreBuilt model lists → v < length lists → IsItem model (item_in placing) → is_active lists (first_node (item_nodes (item_in placing))) ≡ false
+pub IsAdded-placed : (model : Model) (lists : List (List ℕ)) (v : ℕ) (placing : Placing) → AreBuilt model lists
+    → v < length lists → IsItem model (item_in placing) → is_active lists (first_node (item_nodes (item_in placing))) ≡ false
     → AreWithin (route lists v) placing → IsAdded model lists v (item_nodes (item_in placing)) (placed (route lists v) placing)
 IsAdded-placed model lists v placing built low valid first within =
     let may = MayHold-inactive model lists v (item_in placing) built valid first in

@@ -1,5 +1,6 @@
 -- An item put into a list that its vehicle may drive.
-use Rattle.std.proofs.Common.{◌≡◌, ◌∙◌, ◌+◌, ◌<◌, ◌≤◌, ◌++◌, ℕ, suc, List, [], ◌∷◌, Bool, true, false, cond, Option, refl, ap, sym, subst, inl, inr, arith, length, take, drop, append_assoc}
+use Rattle.std.proofs.Common.{◌≡◌, ◌∙◌, ◌+◌, ◌<◌, ◌≤◌, ◌++◌, ℕ, suc, List, [], ◌∷◌, Bool, true, false, cond, Option, refl, ap, sym, subst, inl, inr, arith}
+use Rattle.std.proofs.Common.{length, take, drop, append_assoc}
 use Rattle.std.specs.Prelude.{◌&&◌, ◌||◌, fold, insert, map, slice_range}
 use Rattle.std.specs.List.{list_all}
 use Rattle.std.proofs.lemmas.List.{take-append-drop}
@@ -39,7 +40,8 @@ long-placed list (One n t) within = let long = length-insert list t n within in 
 long-placed list (Two p d s t) within = let long = pair_long (record { pickup = p; delivery = d }) list s t within.0 within.1 in omega (arith, long)
 
 -- the list with the item is that of a used vehicle
-pub used-placed : (model : Model) (list : List ℕ) (placing : Placing) → AreWithin list placing → MayHold model list (item_in placing) → IsUsed model (placed list placing)
+pub used-placed : (model : Model) (list : List ℕ) (placing : Placing) → AreWithin list placing
+    → MayHold model list (item_in placing) → IsUsed model (placed list placing)
 used-placed model list placing within may = record {
   some = not_empty (placed list placing) (long-placed list placing within);
   tour = record { visits = placed-visits model list placing within may; distinct = placed-distinct model list placing within may };
@@ -60,18 +62,23 @@ MayHold-pickup model list p d may = record {
 
 -- a list that may hold an item is short
 pub few-held : (list : LookedUpList) {item : Item} → MayHold list.lookups.now.closed.model.now list.nodes.now item → length list.nodes.now ≤ 1000
-few-held list may = omega (arith, visits-few list.lookups.now.closed.model.now list.nodes.now may.visits may.distinct, list.lookups.now.closed.well_formed.number_of_nodes.1)
+few-held list may =
+    omega (arith, visits-few list.lookups.now.closed.model.now list.nodes.now may.visits may.distinct, list.lookups.now.closed.well_formed.number_of_nodes.1)
 
 -- ---- a list with the pickup of a pair
 
-pub half-used : (pair : PairIn) (s : ℕ) (half : List ℕ) → s ≤ length pair.list.nodes.now → half ≡ insert pair.list.nodes.now s pair.pickup → IsUsed pair.list.lookups.now.closed.model.now half
+pub half-used : (pair : PairIn) (s : ℕ) (half : List ℕ) → s ≤ length pair.list.nodes.now
+    → half ≡ insert pair.list.nodes.now s pair.pickup → IsUsed pair.list.lookups.now.closed.model.now half
 half-used pair s half within picked_up =
     subst (IsUsed pair.list.lookups.now.closed.model.now) (sym picked_up)
-    (used-placed pair.list.lookups.now.closed.model.now pair.list.nodes.now (One pair.pickup s) within (MayHold-pickup pair.list.lookups.now.closed.model.now pair.list.nodes.now pair.pickup pair.delivery pair.may_hold))
+    (used-placed pair.list.lookups.now.closed.model.now pair.list.nodes.now (One pair.pickup s) within
+    (MayHold-pickup pair.list.lookups.now.closed.model.now pair.list.nodes.now pair.pickup pair.delivery pair.may_hold))
 
 -- a walk along it may go on
-pub half-goes_on : (pair : PairIn) (s k : ℕ) (half : List ℕ) (probes : Probes) → s ≤ length pair.list.nodes.now → half ≡ insert pair.list.nodes.now s pair.pickup → k ≤ suc (length pair.list.nodes.now)
-    → AreReachedAt pair.list.lookups.now.closed.model.now pair.list.vehicle half k probes → MayGoOn pair.list.lookups.now.closed.model.now pair.list.vehicle half k probes
+pub half-goes_on : (pair : PairIn) (s k : ℕ) (half : List ℕ) (probes : Probes) → s ≤ length pair.list.nodes.now
+    → half ≡ insert pair.list.nodes.now s pair.pickup → k ≤ suc (length pair.list.nodes.now)
+    → AreReachedAt pair.list.lookups.now.closed.model.now pair.list.vehicle half k probes
+    → MayGoOn pair.list.lookups.now.closed.model.now pair.list.vehicle half k probes
 half-goes_on pair s k half probes within picked_up low here =
     let long = ap length picked_up ∙ length-insert pair.list.nodes.now s pair.pickup within in
     record {
@@ -102,11 +109,14 @@ group-two true true c = refl
 group-two true false c = refl
 group-two false b c = refl
 
-all-placed : (p : ℕ → Bool) (list : List ℕ) (placing : Placing) → AreWithin list placing → list_all p (placed list placing) ≡ (list_all p (item_nodes (item_in placing)) && list_all p list)
-all-placed q list (One n t) within = one-each q (take t list) (drop t list) n ∙ ap (λ l. q n && list_all q l) (take-append-drop t list) ∙ group-one (q n) (list_all q list)
+all-placed : (p : ℕ → Bool) (list : List ℕ) (placing : Placing) → AreWithin list placing
+    → list_all p (placed list placing) ≡ (list_all p (item_nodes (item_in placing)) && list_all p list)
+all-placed q list (One n t) within = one-each q (take t list) (drop t list) n
+    ∙ ap (λ l. q n && list_all q l) (take-append-drop t list) ∙ group-one (q n) (list_all q list)
 all-placed q list (Two p d s t) within =
     one-each q (take s list) (slice_range list s t ++ d ∷ drop t list) p
-    ∙ ap (λ b. q p && b) (ap (list_all q) (sym (append_assoc (take s list) (slice_range list s t) (d ∷ drop t list))) ∙ one-each q (take s list ++ slice_range list s t) (drop t list) d
+    ∙ ap (λ b. q p && b) (ap (list_all q) (sym (append_assoc (take s list) (slice_range list s t) (d ∷ drop t list)))
+    ∙ one-each q (take s list ++ slice_range list s t) (drop t list) d
     ∙ ap (λ l. q d && list_all q l) (append_assoc (take s list) (slice_range list s t) (drop t list) ∙ split-three list s t within.0))
     ∙ group-two (q p) (q d) (list_all q list)
 
@@ -114,10 +124,12 @@ all-placed q list (Two p d s t) within =
 
 allowed-so-far : (model : Model) (v : ℕ) (list : List ℕ) → is_route_open model v list ≡ true → list_all (allows_vehicle model v) list ≡ true
 allowed-so-far model v [] h = refl
-allowed-so-far model v (n ∷ ns) h = and_right (keeps_policy model v (n ∷ ns)) _ (and_right (list_all (serves_pair (n ∷ ns)) model.pairs) _ (and_right (is_feasible_in_each model v (n ∷ ns)) _ h))
+allowed-so-far model v (n ∷ ns) h = and_right (keeps_policy model v (n ∷ ns)) _
+    (and_right (list_all (serves_pair (n ∷ ns)) model.pairs) _ (and_right (is_feasible_in_each model v (n ∷ ns)) _ h))
 
 -- a list is not open where some line is not feasible
-pub closed-by_lines : (model : Model) (v : ℕ) (new : List ℕ) → is_empty new ≡ false → is_feasible_in_each model v new ≡ false → is_route_open model v new ≡ false
+pub closed-by_lines : (model : Model) (v : ℕ) (new : List ℕ) → is_empty new ≡ false
+    → is_feasible_in_each model v new ≡ false → is_route_open model v new ≡ false
 closed-by_lines model v new some h =
     (λ i. some i || (h i && (list_all (serves_pair new) model.pairs && (keeps_policy model v new && list_all (allows_vehicle model v) new))))
 
@@ -129,7 +141,9 @@ module _ (model : Model) (v : ℕ) (list : List ℕ) (placing : Placing) (within
   some = not_empty (placed list placing) (long-placed list placing within)
 
   allowed : list_all (allows_vehicle model v) (placed list placing) ≡ list_all (allows_vehicle model v) (item_nodes (item_in placing))
-  allowed = all-placed (allows_vehicle model v) list placing within ∙ ap (λ b. list_all (allows_vehicle model v) (item_nodes (item_in placing)) && b) (allowed-so-far model v list stands) ∙ right (list_all (allows_vehicle model v) (item_nodes (item_in placing)))
+  allowed = all-placed (allows_vehicle model v) list placing within
+      ∙ ap (λ b. list_all (allows_vehicle model v) (item_nodes (item_in placing)) && b) (allowed-so-far model v list stands)
+      ∙ right (list_all (allows_vehicle model v) (item_nodes (item_in placing)))
     where
       right : (a : Bool) → (a && true) ≡ a
       right true = refl
@@ -137,8 +151,10 @@ module _ (model : Model) (v : ℕ) (list : List ℕ) (placing : Placing) (within
 
   pub closed-by_vehicle : list_all (allows_vehicle model v) (item_nodes (item_in placing)) ≡ false → is_route_open model v (placed list placing) ≡ false
   closed-by_vehicle h =
-      (λ i. some i || (is_feasible_in_each model v (placed list placing) && (list_all (serves_pair (placed list placing)) model.pairs && (keeps_policy model v (placed list placing) && (allowed ∙ h) i))))
-      ∙ last_fails (is_feasible_in_each model v (placed list placing)) (list_all (serves_pair (placed list placing)) model.pairs) (keeps_policy model v (placed list placing))
+      (λ i. some i || (is_feasible_in_each model v (placed list placing)
+      && (list_all (serves_pair (placed list placing)) model.pairs && (keeps_policy model v (placed list placing) && (allowed ∙ h) i))))
+      ∙ last_fails (is_feasible_in_each model v (placed list placing))
+      (list_all (serves_pair (placed list placing)) model.pairs) (keeps_policy model v (placed list placing))
 
   pub open-by_pairs : list_all (allows_vehicle model v) (item_nodes (item_in placing)) ≡ true → is_feasible_in_each model v (placed list placing) ≡ true
       → is_route_open model v (placed list placing) ≡ (list_all (serves_pair (placed list placing)) model.pairs && keeps_policy model v (placed list placing))
@@ -149,15 +165,19 @@ module _ (model : Model) (v : ℕ) (list : List ℕ) (placing : Placing) (within
 -- ---- choices that are passed over
 
 -- choices none of which is open
-pub passed-closed : (model : Model) (list : List ℕ) (best : Option InsertionChoice) (choices : List InsertionChoice) → ((choice : InsertionChoice) → In choices choice → is_route_open model choice.vehicle (placed list choice.placing) ≡ false) → best ≡ fold (weigh model list) best choices
+pub passed-closed : (model : Model) (list : List ℕ) (best : Option InsertionChoice) (choices : List InsertionChoice)
+    → ((choice : InsertionChoice) → In choices choice → is_route_open model choice.vehicle (placed list choice.placing) ≡ false)
+    → best ≡ fold (weigh model list) best choices
 passed-closed model list best [] h = refl
 passed-closed model list best (c ∷ cs) h =
     let here : best ≡ weigh model list best c = sym (ap (λ b. cond b (better key_of best c) best) (h c (inl refl))) in
     passed-closed model list best cs (λ d there. h d (inr there)) ∙ ap (λ b. fold (weigh model list) b cs) here
 
 -- deliveries from a place on, where nothing is reached before it
-pub deliveries-stuck : (model : Model) (v : ℕ) (list : List ℕ) (class p d s t : ℕ) (best : Option InsertionChoice) (probes : Probes) → v < length model.vehicles → MayHold model list (PickupAndDelivery p d) → s ≤ t → t ≤ length list
-    → AreReachedAt model v (insert list s p) (t + 1) probes → ReachNoEnd model probes → best ≡ fold (weigh model list) best (map (pair_choice model v list class p d s) (from_to t (suc (length list))))
+pub deliveries-stuck : (model : Model) (v : ℕ) (list : List ℕ) (class p d s t : ℕ) (best : Option InsertionChoice) (probes : Probes)
+    → v < length model.vehicles → MayHold model list (PickupAndDelivery p d) → s ≤ t → t ≤ length list
+    → AreReachedAt model v (insert list s p) (t + 1) probes → ReachNoEnd model probes
+    → best ≡ fold (weigh model list) best (map (pair_choice model v list class p d s) (from_to t (suc (length list))))
 deliveries-stuck model v list class p d s t best probes low may order within at no_end =
     passed-closed model list best (map (pair_choice model v list class p d s) (from_to t (suc (length list)))) (λ choice there.
     from_map _ (from_to t (suc (length list))) choice there (λ u u_in is.

@@ -1,5 +1,6 @@
 -- What is known in a row, by what was found and when.
-use Rattle.std.proofs.Common.{◌≡◌, ◌∙◌, ◌+◌, ◌<◌, ℕ, zero, suc, cond, List, [], ◌∷◌, All, get_or, length, length-set, map, set, refl, sym, ap, subst, arith, inl, inr}
+use Rattle.std.proofs.Common.{◌≡◌, ◌∙◌, ◌+◌, ◌<◌, ℕ, zero, suc, cond, List, [], ◌∷◌, All, get_or, length, length-set, map, set, refl, sym, ap, subst, arith}
+use Rattle.std.proofs.Common.{inl, inr}
 use Rattle.std.specs.Prelude.{replicate}
 use Rattle.std.proofs.lemmas.Bool.{cases_lt}
 use Rattle.std.proofs.lemmas.Bool.Decides.{eqb_tells}
@@ -13,7 +14,8 @@ abbrev pub none : FoundItem
 none = record { known = Nothing; since = 0 }
 
 -- what is read of an item
-pub read : (changes : ℕ) (found : List FoundItem) (i : ℕ) (d : FoundItem) → i < length found → get_or (map (known_after changes) found) i Nothing ≡ known_after changes (get_or found i d)
+pub read : (changes : ℕ) (found : List FoundItem) (i : ℕ) (d : FoundItem) → i < length found
+    → get_or (map (known_after changes) found) i Nothing ≡ known_after changes (get_or found i d)
 read changes [] i d low = absurd (omega (arith, low))
 read changes (f ∷ fs) zero d low = refl
 read changes (f ∷ fs) (suc i) d low = read changes fs i d (omega (arith, low))
@@ -31,14 +33,17 @@ counts-not changes found other = elim (eqb_tells found.since changes) [
 ]
 
 -- what is known of an item is written
-pub written : (changes : ℕ) (found : List FoundItem) (i : ℕ) (known : KnownItem) → map (known_after changes) (set found i (record { known = known; since = changes })) ≡ set (map (known_after changes) found) i known
+pub written : (changes : ℕ) (found : List FoundItem) (i : ℕ) (known : KnownItem)
+    → map (known_after changes) (set found i (record { known = known; since = changes })) ≡ set (map (known_after changes) found) i known
 written changes [] i known = refl
 written changes (f ∷ fs) zero known = ap (λ k. k ∷ map (known_after changes) fs) (counts changes (record { known = known; since = changes }) refl)
 written changes (f ∷ fs) (suc i) known = ap (λ ks. known_after changes f ∷ ks) (written changes fs i known)
 
-pub stays_found : (changes : ℕ) (found : List FoundItem) (i : ℕ) (new : FoundItem) → All (IsFoundBy changes) found → IsFoundBy changes new → All (IsFoundBy changes) (set found i new)
+pub stays_found : (changes : ℕ) (found : List FoundItem) (i : ℕ) (new : FoundItem)
+    → All (IsFoundBy changes) found → IsFoundBy changes new → All (IsFoundBy changes) (set found i new)
 stays_found changes found i new all here k d low = elim (eqb_tells k i) [
-  | inl e ↦ subst (λ j. IsFoundBy changes (get_or (set found i new) j d)) (sym e.1) (subst (IsFoundBy changes) (sym (get_or-set_same found i new d (by e.1))) here)
+  | inl e ↦
+      subst (λ j. IsFoundBy changes (get_or (set found i new) j d)) (sym e.1) (subst (IsFoundBy changes) (sym (get_or-set_same found i new d (by e.1))) here)
   | inr e ↦ subst (IsFoundBy changes) (sym (get_or-set_other found i k new d e.1)) (all k d (let n = length-set found i new in omega (arith, low, n)))
 ]
   where
@@ -46,7 +51,8 @@ stays_found changes found i new all here k d low = elim (eqb_tells k i) [
     by e = let n = length-set found i new in omega (arith, low, n, e)
 
 -- after one change more nothing is known
-pub nothing_after : (changes : ℕ) (found : List FoundItem) → All (IsFoundBy changes) found → (i : ℕ) → get_or (map (known_after (changes + 1)) found) i Nothing ≡ Nothing
+pub nothing_after : (changes : ℕ) (found : List FoundItem) → All (IsFoundBy changes) found
+    → (i : ℕ) → get_or (map (known_after (changes + 1)) found) i Nothing ≡ Nothing
 nothing_after changes found all i = elim (cases_lt i (length found)) [
   | inl low ↦ read (changes + 1) found i none low ∙ counts-not (changes + 1) (get_or found i none) (λ e. let b = all i none low in absurd (omega (arith, b, e)))
   | inr past ↦ get_or_past (map (known_after (changes + 1)) found) i Nothing (let n = length-map found (known_after (changes + 1)) in omega (arith, past, n))
@@ -61,7 +67,8 @@ nothing_found zero = refl
 nothing_found (suc n) = ap (λ ks. Nothing ∷ ks) (nothing_found n)
 
 -- nothing is known where all that was found was taken away
-pub nothing_cleared : (found : List FoundItem) → ((i : ℕ) → i < length found → get_or found i none ≡ none) → (i : ℕ) → get_or (map (known_after 1) found) i Nothing ≡ Nothing
+pub nothing_cleared : (found : List FoundItem) → ((i : ℕ) → i < length found → get_or found i none ≡ none)
+    → (i : ℕ) → get_or (map (known_after 1) found) i Nothing ≡ Nothing
 nothing_cleared found cleared i = elim (cases_lt i (length found)) [
   | inl low ↦ read 1 found i none low ∙ ap (known_after 1) (cleared i low)
   | inr past ↦ get_or_past (map (known_after 1) found) i Nothing (let n = length-map found (known_after 1) in omega (arith, past, n))

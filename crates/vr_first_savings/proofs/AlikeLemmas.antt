@@ -4,7 +4,8 @@ use Rattle.std.specs.Prelude.{◌&&◌, ◌||◌, ◌==◌, ℤ, pos, find, slic
 use Rattle.std.specs.List.{list_all, list_any}
 use Rattle.vr_model.specs.tables.Numbers.{are_same_by, below, is_same_number, number_at, within}
 use Rattle.vr_model.specs.tables.Tables.{breaks_of, dimension_at, evaluated, evaluator_number, no_dimension, no_evaluator, row_of, vehicle_at}
-use Rattle.vr_model.specs.tables.ModelRules.{are_alike, are_alike_in, is_same_break, is_same_interval, is_same_option, is_same_policy, is_same_row, is_same_schedule_rule, is_savings, vehicles_differ}
+use Rattle.vr_model.specs.tables.ModelRules.{are_alike, are_alike_in, is_same_break, is_same_interval, is_same_option, is_same_policy, is_same_row}
+use Rattle.vr_model.specs.tables.ModelRules.{is_same_schedule_rule, is_savings, vehicles_differ}
 use Rattle.vr_model.specs.tables.WellFormed.{IsWellFormed}
 use Rattle.vr_model.specs.routes.Routes.{arcs_from, is_empty}
 use Rattle.vr_model.specs.routes.Rules.{allows_vehicle, is_route_open, keeps_policy, pairs_in, policy_allows, row_allows_vehicle, serves_pair}
@@ -96,11 +97,13 @@ no_rows (row ∷ rows) e = absurd cc
 -- so it is in a well-formed model whose first solution is to be built by savings
 pub saved-alike : (model : Model) → IsWellFormed model → is_savings model.search.first ≡ true → AreAlike model
 saved-alike model well saved =
-    let can : (vehicles_differ model || not (is_empty model.allowed)) ≡ false = sym (ap (λ b. b && (vehicles_differ model || not (is_empty model.allowed))) saved) ∙ well.can_save in
+    let can : (vehicles_differ model || not (is_empty model.allowed)) ≡ false =
+    sym (ap (λ b. b && (vehicles_differ model || not (is_empty model.allowed))) saved) ∙ well.can_save in
     let all : List ℕ = below (length model.vehicles) in
     record {
       each = λ v w low known.
-          let one = fails_at (λ v. list_any (λ w. not (are_alike model v w)) all) all v (or-false_left (vehicles_differ model) _ can) (to_below (length model.vehicles) v low) in
+          let one = fails_at (λ v. list_any (λ w. not (are_alike model v w)) all) all v
+          (or-false_left (vehicles_differ model) _ can) (to_below (length model.vehicles) v low) in
           not_false (are_alike model v w) (fails_at (λ w. not (are_alike model v w)) all w one (to_below (length model.vehicles) w known));
       none_allowed = no_rows model.allowed (not_false (is_empty model.allowed) (or-false_right (vehicles_differ model) _ can));
     }
@@ -164,11 +167,15 @@ all_same p q (x ∷ xs) h = ap₂ (λ a b. a && b) (h x (inl refl)) (all_same p 
 
 module _ (model : Model) (v w : ℕ) (same : IsSame model v w) (list : List ℕ) where
   -- the arcs of a way ask the same of both
-  arcs_same : (d : ℕ) → IsSameIn (dimension_at model d) v w → (node : ℕ) (rest : List ℕ) → map (line_arc model d v) (arcs_from v node rest) ≡ map (line_arc model d w) (arcs_from w node rest)
+  arcs_same : (d : ℕ) → IsSameIn (dimension_at model d) v w → (node : ℕ) (rest : List ℕ)
+      → map (line_arc model d v) (arcs_from v node rest) ≡ map (line_arc model d w) (arcs_from w node rest)
   arcs_same d alike node [] = refl
   arcs_same d alike node (next ∷ rest) = λ i.
       let dimension = dimension_at model d in
-      record { transit = evaluated model (slice_index_or dimension.evaluators (alike.evaluator i) no_evaluator) node next; visit = number_at dimension.visit node } ∷ arcs_same d alike next rest i
+      record {
+        transit = evaluated model (slice_index_or dimension.evaluators (alike.evaluator i) no_evaluator) node next;
+        visit = number_at dimension.visit node;
+      } ∷ arcs_same d alike next rest i
 
   -- a list has the same line for both
   line_same : (d : ℕ) → IsSameIn (dimension_at model d) v w → line model d v list ≡ line model d w list
@@ -178,16 +185,19 @@ module _ (model : Model) (v w : ℕ) (same : IsSame model v w) (list : List ℕ)
       ∙ ap₂ (λ from to. map (line_arc model d w) (arcs_from w from (list ++ to ∷ []))) same.start same.end in
       λ i. record {
         allowed = (λ x. ((within (pos 0) (alike.capacity i) x && alike.starts x i) && (not dimension.fix_start || is_same_number x (pos 0))))
-            ∷ (map (λ node. stop_allows (alike.capacity i) (row_of dimension.nodes node)) list ++ (λ x. (within (pos 0) (alike.capacity i) x && alike.ends x i)) ∷ []);
+            ∷ (map (λ node. stop_allows (alike.capacity i) (row_of dimension.nodes node)) list
+            ++ (λ x. (within (pos 0) (alike.capacity i) x && alike.ends x i)) ∷ []);
         arcs = arcs i;
         slack_max = dimension.slack_max;
         breaks = alike.breaks i;
       }
 
-  feasible_same : list_all (λ d. is_feasible (line model d v list)) (below (length model.dimensions)) ≡ list_all (λ d. is_feasible (line model d w list)) (below (length model.dimensions))
+  feasible_same : list_all (λ d. is_feasible (line model d v list)) (below (length model.dimensions))
+      ≡ list_all (λ d. is_feasible (line model d w list)) (below (length model.dimensions))
   feasible_same = all_same (λ d. is_feasible (line model d v list)) (λ d. is_feasible (line model d w list)) (below (length model.dimensions)) (λ d there.
       ap is_feasible (line_same d (is_same_in (dimension_at model d) v w
-      (all-from_list_all (λ dimension. are_alike_in dimension v w) model.dimensions same.dimensions d no_dimension (of_below (length model.dimensions) d there)))))
+      (all-from_list_all (λ dimension. are_alike_in dimension v w) model.dimensions
+      same.dimensions d no_dimension (of_below (length model.dimensions) d there)))))
 
   policy_same : keeps_policy model v list ≡ keeps_policy model w list
   policy_same = ap (λ policy. list_all (λ x. list_all (λ y. policy_allows policy list x y) (pairs_in model list)) (pairs_in model list)) same.policy
@@ -197,7 +207,8 @@ allows_all : (model : Model) (v : ℕ) (list : List ℕ) → model.allowed ≡ [
 allows_all model v list none = ap (λ rows. list_all (λ node. row_allows_vehicle (find (λ row. row.node == node) rows) v) list) none
 
 -- of vehicles that are alike one may drive a list exactly if another may
-pub open-alike : (model : Model) → AreAlike model → (v w : ℕ) → v < length model.vehicles → w < length model.vehicles → (list : List ℕ) → is_route_open model v list ≡ is_route_open model w list
+pub open-alike : (model : Model) → AreAlike model → (v w : ℕ) → v < length model.vehicles
+    → w < length model.vehicles → (list : List ℕ) → is_route_open model v list ≡ is_route_open model w list
 open-alike model alike v w low known list =
     let same = is_same model v w (alike.each v w low known) in
     let allows = allows_all model v list alike.none_allowed ∙ sym (allows_all model w list alike.none_allowed) in

@@ -30,10 +30,12 @@ holds-append xs ys x = list_any-append (λ y. x == y) xs ys
 pub AreApart-none : (model : Model) → AreApart model []
 AreApart-none model = record { some = λ k d low. absurd (omega (arith, low)); visits = refl; distinct = refl }
 
-pub AreApart-append : (model : Model) (xs ys : List (List ℕ)) → AreApart model xs → AreApart model ys → ((x : ℕ) → holds (concat xs) x ≡ true → holds (concat ys) x ≡ false) → AreApart model (xs ++ ys)
+pub AreApart-append : (model : Model) (xs ys : List (List ℕ)) → AreApart model xs → AreApart model ys
+    → ((x : ℕ) → holds (concat xs) x ≡ true → holds (concat ys) x ≡ false) → AreApart model (xs ++ ys)
 AreApart-append model xs ys one other apart = record {
   some = All-append (λ route. 0 < length route) xs ys one.some other.some;
-  visits = ap (list_all (is_visit model)) (concat-append xs ys) ∙ list_all-append (is_visit model) (concat xs) (concat ys) ∙ ap₂ (λ a b. a && b) one.visits other.visits;
+  visits = ap (list_all (is_visit model)) (concat-append xs ys)
+      ∙ list_all-append (is_visit model) (concat xs) (concat ys) ∙ ap₂ (λ a b. a && b) one.visits other.visits;
   distinct = ap is_distinct (concat-append xs ys) ∙ is_distinct-both (concat xs) (concat ys) one.distinct other.distinct apart;
 }
 
@@ -47,19 +49,24 @@ AreApart-filter model p routes are = record {
 }
 
 -- one of them left out
-pub AreApart-without : (model : Model) (routes rest : List (List ℕ)) (route : List ℕ) → AreApart model (routes ++ route ∷ rest) → AreApart model (routes ++ rest)
+pub AreApart-without : (model : Model) (routes rest : List (List ℕ)) (route : List ℕ)
+    → AreApart model (routes ++ route ∷ rest) → AreApart model (routes ++ rest)
 AreApart-without model routes rest route are =
-    let all = sym (list_all-append (is_visit model) (concat routes) (route ++ concat rest)) ∙ ap (list_all (is_visit model)) (sym (concat-append routes (route ∷ rest))) ∙ are.visits in
-    let later = sym (list_all-append (is_visit model) route (concat rest)) ∙ and_right (list_all (is_visit model) (concat routes)) (list_all (is_visit model) (route ++ concat rest)) all in
+    let all = sym (list_all-append (is_visit model) (concat routes) (route ++ concat rest))
+    ∙ ap (list_all (is_visit model)) (sym (concat-append routes (route ∷ rest))) ∙ are.visits in
+    let later = sym (list_all-append (is_visit model) route (concat rest))
+    ∙ and_right (list_all (is_visit model) (concat routes)) (list_all (is_visit model) (route ++ concat rest)) all in
     let whole : is_distinct (concat routes ++ (route ++ concat rest)) ≡ true = ap is_distinct (sym (concat-append routes (route ∷ rest))) ∙ are.distinct in
     record {
       some = some routes are.some;
       visits = ap (list_all (is_visit model)) (concat-append routes rest) ∙ list_all-append (is_visit model) (concat routes) (concat rest)
-          ∙ ap₂ (λ a b. a && b) (and_left (list_all (is_visit model) (concat routes)) (list_all (is_visit model) (route ++ concat rest)) all) (and_right (list_all (is_visit model) route) (list_all (is_visit model) (concat rest)) later);
+          ∙ ap₂ (λ a b. a && b) (and_left (list_all (is_visit model) (concat routes)) (list_all (is_visit model) (route ++ concat rest)) all)
+          (and_right (list_all (is_visit model) route) (list_all (is_visit model) (concat rest)) later);
       distinct = ap is_distinct (concat-append routes rest)
           ∙ is_distinct-both (concat routes) (concat rest) (is_distinct-left (concat routes) (route ++ concat rest) whole)
           (is_distinct-right route (concat rest) (is_distinct-right (concat routes) (route ++ concat rest) whole))
-          (λ x h. or-false_right (holds route x) (holds (concat rest) x) (sym (holds-append route (concat rest) x) ∙ is_distinct-apart (concat routes) (route ++ concat rest) whole x h));
+          (λ x h. or-false_right (holds route x) (holds (concat rest) x)
+          (sym (holds-append route (concat rest) x) ∙ is_distinct-apart (concat routes) (route ++ concat rest) whole x h));
     }
   where
     some : (rs : List (List ℕ)) → All (λ route. 0 < length route) (rs ++ route ∷ rest) → All (λ route. 0 < length route) (rs ++ rest)
@@ -86,7 +93,8 @@ AreApart-each model part (n ∷ ns) d are own =
         (elsewhere ms x h (or-false_right (n == m) (holds ms n) absent))
 
 -- a node of some part is a node of one
-pub one-part : {C : Type 0} (part : ℕ → List (List ℕ)) (ns : List ℕ) (x : ℕ) → holds (concat (each ns part)) x ≡ true → ((n : ℕ) → holds (concat (part n)) x ≡ true → C) → C
+pub one-part : {C : Type 0} (part : ℕ → List (List ℕ)) (ns : List ℕ) (x : ℕ)
+    → holds (concat (each ns part)) x ≡ true → ((n : ℕ) → holds (concat (part n)) x ≡ true → C) → C
 one-part {C = C} part [] x h k = absurd (clash false h refl)
 one-part {C = C} part (n ∷ ns) x h k = by (holds (concat (part n)) x) refl (λ later. one-part part ns x later k)
   where
@@ -112,7 +120,8 @@ same-route {C = C} p q (r ∷ rs) d x h g k = by (holds r x) refl (same-route p 
     nowhere : (p : List ℕ → Bool) → holds r x ≡ true → holds (concat (filter p rs)) x ≡ false
     nowhere p there = kept-absent p rs x (λ i low passes. absent-in rs x i (is_distinct-apart r (concat rs) d x there))
 
-    by : (b : Bool) → holds r x ≡ b → (holds (concat (filter p rs)) x ≡ true → holds (concat (filter q rs)) x ≡ true → ((route : List ℕ) → p route ≡ true → q route ≡ true → C) → C) → C
+    by : (b : Bool) → holds r x ≡ b
+        → (holds (concat (filter p rs)) x ≡ true → holds (concat (filter q rs)) x ≡ true → ((route : List ℕ) → p route ≡ true → q route ≡ true → C) → C) → C
     by true e later = k r (in-first (p r) (filter p rs) h (nowhere p e)) (in-first (q r) (filter q rs) g (nowhere q e))
     by false e later = later (in-rest (p r) (filter p rs) h e) (in-rest (q r) (filter q rs) g e) k
 

@@ -1,5 +1,6 @@
 -- The best join is the least of all joins that may be made.
-use Rattle.std.proofs.Common.{◌≡◌, ◌∙◌, ◌<◌, ◌≤◌, ◌+◌, ◌++◌, ℕ, zero, suc, List, [], ◌∷◌, Option, None, refl, ap, sym, subst, inl, inr, arith, length, take, append_assoc}
+use Rattle.std.proofs.Common.{◌≡◌, ◌∙◌, ◌<◌, ◌≤◌, ◌+◌, ◌++◌, ℕ, zero, suc, List, [], ◌∷◌, Option, None, refl, ap, sym, subst, inl, inr, arith, length, take}
+use Rattle.std.proofs.Common.{append_assoc}
 use Rattle.std.specs.Prelude.{map, fold, flat_map, IfSome}
 use Rattle.std.specs.Option.{option_map}
 use Rattle.std.proofs.lemmas.List.{append-nil, map-append, take_more, take_all}
@@ -60,12 +61,14 @@ module _ (model : Model) (routes : List (List ℕ)) where
       ∙ sym (map-map (λ back. record { front = route routes i; back = back }) (route routes) (below (length routes)))
       ∙ ap (map (λ back. record { front = route routes i; back = back })) (routes-at routes)
 
-  pub best-row : (i : ℕ) → i < length routes → (best : Option JoinChoice) (xs : List Join) → IsBestJoin best xs → IsBestJoin (best_behind model routes i (length routes) best) (xs ++ row routes (route routes i))
+  pub best-row : (i : ℕ) → i < length routes → (best : Option JoinChoice) (xs : List Join) → IsBestJoin best xs
+      → IsBestJoin (best_behind model routes i (length routes) best) (xs ++ row routes (route routes i))
   best-row i low best xs before =
       subst (λ ys. IsBestJoin (best_behind model routes i (length routes) best) (xs ++ ys)) (same-row i)
       (IsBest-fold (join_of routes) (join_key model) saving_key (may_join model) (MayBeJoined model routes) (λ choice. may_join model (join_of routes choice))
       best (map (choice_at model routes i) (below (length routes))) xs before
-      (λ choice there. from_map (choice_at model routes i) (below (length routes)) choice there (λ j j_in is. subst Known (sym is) (known i j low (of_below (length routes) j j_in)))))
+      (λ choice there. from_map (choice_at model routes i) (below (length routes)) choice there
+      (λ j j_in is. subst Known (sym is) (known i j low (of_below (length routes) j j_in)))))
 
   best-rows : (is : List ℕ) → ((i : ℕ) → In is i → i < length routes) → (best : Option JoinChoice) (xs : List Join) → IsBestJoin best xs
       → IsBestJoin (fold (λ best i. best_behind model routes i (length routes) best) best is) (xs ++ each is (λ i. row routes (route routes i)))
@@ -73,14 +76,16 @@ module _ (model : Model) (routes : List (List ℕ)) where
   best-rows (i ∷ is) low best xs before =
       subst (IsBestJoin (fold (λ best i. best_behind model routes i (length routes) best) (best_behind model routes i (length routes) best) is))
       (append_assoc xs (row routes (route routes i)) (each is (λ i. row routes (route routes i))))
-      (best-rows is (λ k there. low k (inr there)) (best_behind model routes i (length routes) best) (xs ++ row routes (route routes i)) (best-row i (low i (inl refl)) best xs before))
+      (best-rows is (λ k there. low k (inr there)) (best_behind model routes i (length routes) best)
+      (xs ++ row routes (route routes i)) (best-row i (low i (inl refl)) best xs before))
 
   all-rows : each (below (length routes)) (λ i. row routes (route routes i)) ≡ each routes (row routes)
   all-rows = sym (flat_map-map (row routes) (route routes) (below (length routes))) ∙ ap (flat_map (row routes)) (routes-at routes)
 
   best : IsBestJoin (best_of_joins model routes (length routes)) (each routes (row routes))
   best = subst (IsBestJoin (best_of_joins model routes (length routes))) all-rows
-      (best-rows (below (length routes)) (λ i there. of_below (length routes) i there) None [] (IsBest-none (join_of routes) (join_key model) saving_key (may_join model) (MayBeJoined model routes)))
+      (best-rows (below (length routes)) (λ i there. of_below (length routes) i there) None []
+      (IsBest-none (join_of routes) (join_key model) saving_key (may_join model) (MayBeJoined model routes)))
 
   pub best_join-least : option_map (join_of routes) (best_of_joins model routes (length routes)) ≡ least_by (join_key model) (joins model routes)
   best_join-least = best.least

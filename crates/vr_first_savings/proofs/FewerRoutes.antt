@@ -1,5 +1,6 @@
 -- Each join leaves one route less, so as many steps as there are routes are enough.
-use Rattle.std.proofs.Common.{◌≡◌, ◌∙◌, ◌<◌, ◌≤◌, ◌+◌, ℕ, zero, suc, Bool, true, false, not, cond, List, [], ◌∷◌, length, map, Option, Some, None, inl, inr, refl, ap, sym, subst, arith}
+use Rattle.std.proofs.Common.{◌≡◌, ◌∙◌, ◌<◌, ◌≤◌, ◌+◌, ℕ, zero, suc, Bool, true, false, not, cond, List, [], ◌∷◌, length, map, Option, Some, None, inl, inr}
+use Rattle.std.proofs.Common.{refl, ap, sym, subst, arith}
 use Rattle.std.specs.Prelude.{◌||◌, ◌==◌, filter, MatchOption}
 use Rattle.std.proofs.lemmas.Bool.{eq-eqb}
 use Rattle.std.proofs.lemmas.List.Sums.{count_by-le-length, length-filter}
@@ -87,9 +88,11 @@ module _ (model : Model) where
 
   one_route_less : (routes : List (List ℕ)) (join : Join) → IsJoin routes join → length (after_join routes join) < length routes
   one_route_less routes join is =
-      let less = two_less (λ list. not (is_part_of join list)) (λ list. first_node list == first_node join.front) routes join.front join.back is.front_there is.back_there
+      let less = two_less (λ list. not (is_part_of join list)) (λ list. first_node list == first_node join.front)
+      routes join.front join.back is.front_there is.back_there
       (ap (λ b. not (b || (first_node join.front == first_node join.back))) (eq-eqb (first_node join.front) (first_node join.front) refl))
-      (ap (λ b. not ((first_node join.back == first_node join.front) || b)) (eq-eqb (first_node join.back) (first_node join.back) refl) ∙ ap not (or-true (first_node join.back == first_node join.front)))
+      (ap (λ b. not ((first_node join.back == first_node join.front) || b)) (eq-eqb (first_node join.back) (first_node join.back) refl)
+      ∙ ap not (or-true (first_node join.back == first_node join.front)))
       (eq-eqb (first_node join.front) (first_node join.front) refl)
       (eq_turned (first_node join.back) (first_node join.front) ∙ is.apart) in
       omega (arith, less)
@@ -102,7 +105,8 @@ module _ (model : Model) where
   next_joins : (routes : List (List ℕ)) (join : Join) → next routes ≡ Some join → IsJoin routes join
   next_joins routes join e =
       let first : IsFirstLeast (join_key model) (joins model routes) join =
-      subst (λ o. MatchOption o (joins model routes ≡ []) (IsFirstLeast (join_key model) (joins model routes))) e (least_first (join_key model) (joins model routes)) in
+      subst (λ o. MatchOption o (joins model routes ≡ []) (IsFirstLeast (join_key model) (joins model routes)))
+      e (least_first (join_key model) (joins model routes)) in
       of_joins routes join (of_contains (joins model routes) join (first.place, first.in_list, first.stands_there join))
 
   ends : (more : ℕ) (routes : List (List ℕ)) → length routes ≤ more → IsMerged model (merged model more routes)

@@ -1,5 +1,6 @@
 -- The items of a model stand apart, in order of their classes too.
-use Rattle.std.proofs.Common.{◌≡◌, ◌∙◌, ◌<◌, ◌+◌, ◌++◌, ℕ, zero, suc, List, [], ◌∷◌, Bool, true, false, cond, not, Option, Some, None, refl, ap, ap₂, sym, subst, arith, length}
+use Rattle.std.proofs.Common.{◌≡◌, ◌∙◌, ◌<◌, ◌+◌, ◌++◌, ℕ, zero, suc, List, [], ◌∷◌, Bool, true, false, cond, not, Option, Some, None, refl, ap, ap₂, sym}
+use Rattle.std.proofs.Common.{subst, arith, length}
 use Rattle.std.specs.Prelude.{◌&&◌, ◌||◌, ◌==◌, map, filter, find, fold, All}
 use Rattle.std.specs.List.{list_all, concat, range_with_len}
 use Rattle.std.proofs.lemmas.Bool.{eqb-true, eq-eqb}
@@ -36,7 +37,8 @@ above : (p : ℕ → Bool) (a n x : ℕ) → x < a → holds (filter p (range_wi
 above p a zero x low = refl
 above p a (suc n) x low = by (p a) (above p (a + 1) n x (omega (arith, low)))
   where
-    by : (b : Bool) → holds (filter p (range_with_len (a + 1) n)) x ≡ false → holds (cond b (a ∷ filter p (range_with_len (a + 1) n)) (filter p (range_with_len (a + 1) n))) x ≡ false
+    by : (b : Bool) → holds (filter p (range_with_len (a + 1) n)) x ≡ false
+        → holds (cond b (a ∷ filter p (range_with_len (a + 1) n)) (filter p (range_with_len (a + 1) n))) x ≡ false
     by true rest = ap₂ (λ a b. a || b) (apart x a (λ same. omega (arith, same, low))) rest
     by false rest = rest
 
@@ -44,7 +46,8 @@ distinct-range : (p : ℕ → Bool) (a n : ℕ) → is_distinct (filter p (range
 distinct-range p a zero = refl
 distinct-range p a (suc n) = by (p a) (distinct-range p (a + 1) n)
   where
-    by : (b : Bool) → is_distinct (filter p (range_with_len (a + 1) n)) ≡ true → is_distinct (cond b (a ∷ filter p (range_with_len (a + 1) n)) (filter p (range_with_len (a + 1) n))) ≡ true
+    by : (b : Bool) → is_distinct (filter p (range_with_len (a + 1) n)) ≡ true
+        → is_distinct (cond b (a ∷ filter p (range_with_len (a + 1) n)) (filter p (range_with_len (a + 1) n))) ≡ true
     by true rest = ap₂ (λ b c. not b && c) (above p (a + 1) n a (omega arith)) rest
     by false rest = rest
 
@@ -87,7 +90,8 @@ holds-has pair node h = by (node == pair.pickup) refl h
     by false e h = second (pair.pickup == node) (pair.delivery == node) (swap node pair.delivery (last (node == pair.delivery) h))
 
 -- a pair that is found is one of the pairs
-found-in : (pairs : List Pair) (n : ℕ) (pair : Pair) → find (has n) pairs ≡ Some pair → (x : ℕ) → holds (nodes_of_pair pair) x ≡ true → holds (each pairs nodes_of_pair) x ≡ true
+found-in : (pairs : List Pair) (n : ℕ) (pair : Pair) → find (has n) pairs ≡ Some pair
+    → (x : ℕ) → holds (nodes_of_pair pair) x ≡ true → holds (each pairs nodes_of_pair) x ≡ true
 found-in [] n pair e x h = absurd (cc)
 found-in (p ∷ ps) n pair e x h = holds-append (nodes_of_pair p) (each ps nodes_of_pair) x ∙ by (has n p) e (λ later. found-in ps n pair later x h)
   where
@@ -98,7 +102,8 @@ found-in (p ∷ ps) n pair e x h = holds-append (nodes_of_pair p) (each ps nodes
     second true b e = refl
     second false b e = e
 
-    by : (b : Bool) → cond b (Some p) (find (has n) ps) ≡ Some pair → (find (has n) ps ≡ Some pair → holds (each ps nodes_of_pair) x ≡ true) → (holds (nodes_of_pair p) x || holds (each ps nodes_of_pair) x) ≡ true
+    by : (b : Bool) → cond b (Some p) (find (has n) ps) ≡ Some pair → (find (has n) ps ≡ Some pair → holds (each ps nodes_of_pair) x ≡ true)
+        → (holds (nodes_of_pair p) x || holds (each ps nodes_of_pair) x) ≡ true
     by true e rest = ap (λ b. b || holds (each ps nodes_of_pair) x) (subst (λ q. holds (nodes_of_pair q) x ≡ true) (sym (some p pair e)) h)
     by false e rest = second (holds (nodes_of_pair p) x) (holds (each ps nodes_of_pair) x) (rest e)
 
@@ -111,7 +116,8 @@ same-pair (p ∷ ps) n pair e d x h = by (has n p) e (λ later. same-pair ps n p
     some : (p q : Pair) → Some p ≡ Some q → p ≡ q
     some p q e = cc
 
-    by : (b : Bool) → cond b (Some p) (find (has n) ps) ≡ Some pair → (find (has n) ps ≡ Some pair → find (has x) ps ≡ Some pair) → cond (has x p) (Some p) (find (has x) ps) ≡ Some pair
+    by : (b : Bool) → cond b (Some p) (find (has n) ps) ≡ Some pair
+        → (find (has n) ps ≡ Some pair → find (has x) ps ≡ Some pair) → cond (has x p) (Some p) (find (has x) ps) ≡ Some pair
     by true e later =
         let same : p ≡ pair = some p pair e in
         ap (λ b. cond b (Some p) (find (has x) ps)) (holds-has p x (subst (λ q. holds (nodes_of_pair q) x ≡ true) (sym same) h)) ∙ ap Some same
@@ -138,7 +144,8 @@ owned : (model : Model) → IsWellFormed model → (n x : ℕ) → holds (concat
 unfolding owner
 owned model well_formed n x h = by (pair_of model n) refl h
   where
-    one : (pair : Pair) → pair_of model n ≡ Some pair → (b : Bool) → (pair.pickup == n) ≡ b → holds (concat (cond b ((pair.pickup ∷ pair.delivery ∷ []) ∷ []) [])) x ≡ true → owner (pair_of model x) x ≡ n
+    one : (pair : Pair) → pair_of model n ≡ Some pair → (b : Bool) → (pair.pickup == n) ≡ b
+        → holds (concat (cond b ((pair.pickup ∷ pair.delivery ∷ []) ∷ []) [])) x ≡ true → owner (pair_of model x) x ≡ n
     one pair e true f h = ap (λ o. owner o x) (same-pair model.pairs n pair e well_formed.no_node_in_pairs_twice x h) ∙ eqb-true pair.pickup n f
     one pair e false f h = absurd (clash false h refl)
 
@@ -146,7 +153,8 @@ owned model well_formed n x h = by (pair_of model n) refl h
     by None e h = let same : x ≡ n = one-of x n h in subst (λ x. owner (pair_of model x) x ≡ n) (sym same) (ap (λ o. owner o n) e)
     by (Some pair) e h = one pair e (pair.pickup == n) refl h
 
-AreApart-one : (model : Model) (route : List ℕ) → 0 < length route → list_all (is_visit model) route ≡ true → is_distinct route ≡ true → AreApart model (route ∷ [])
+AreApart-one : (model : Model) (route : List ℕ) → 0 < length route
+    → list_all (is_visit model) route ≡ true → is_distinct route ≡ true → AreApart model (route ∷ [])
 AreApart-one model route some visits distinct = record {
   some = All-cons (λ route. 0 < length route) route [] some (λ k d low. absurd (omega (arith, low)));
   visits = ap (list_all (is_visit model)) (append-nil route) ∙ visits;
@@ -156,7 +164,8 @@ AreApart-one model route some visits distinct = record {
 item-apart : (model : Model) → IsWellFormed model → (n : ℕ) → is_visit model n ≡ true → AreApart model (items_at (pair_of model n) n)
 item-apart model well_formed n visit = by (pair_of model n) refl
   where
-    one : (pair : Pair) → pair_of model n ≡ Some pair → (b : Bool) → (pair.pickup == n) ≡ b → AreApart model (cond b ((pair.pickup ∷ pair.delivery ∷ []) ∷ []) [])
+    one : (pair : Pair) → pair_of model n ≡ Some pair → (b : Bool) → (pair.pickup == n) ≡ b
+        → AreApart model (cond b ((pair.pickup ∷ pair.delivery ∷ []) ∷ []) [])
     one pair e true f =
         let item : IsItem model (PickupAndDelivery pair.pickup pair.delivery) =
         IsItem-visit model well_formed n visit (Some (PickupAndDelivery pair.pickup pair.delivery))
@@ -187,7 +196,8 @@ classes candidates = each (below 3) (λ class. filter (λ candidate. candidate.c
 
 filtered : {A B : Type 0} (f : A → B) (p : A → Bool) (q : B → Bool) (xs : List A) → All (λ x. p x ≡ q (f x)) xs → map f (filter p xs) ≡ filter q (map f xs)
 filtered f p q [] h = refl
-filtered f p q (x ∷ xs) h = by (p x) ∙ ap₂ (λ b ys. cond b (f x ∷ ys) ys) (h 0 x (omega arith)) (filtered f p q xs (λ k d low. h (suc k) d (omega (arith, low))))
+filtered f p q (x ∷ xs) h = by (p x)
+    ∙ ap₂ (λ b ys. cond b (f x ∷ ys) ys) (h 0 x (omega arith)) (filtered f p q xs (λ k d low. h (suc k) d (omega (arith, low))))
   where
     by : (b : Bool) → map f (cond b (x ∷ filter p xs) (filter p xs)) ≡ cond b (f x ∷ map f (filter p xs)) (map f (filter p xs))
     by true = refl
@@ -196,10 +206,12 @@ filtered f p q (x ∷ xs) h = by (p x) ∙ ap₂ (λ b ys. cond b (f x ∷ ys) y
 pub classes-are : (model : Model) (candidates : List Candidate) → AreCandidates model candidates → map nodes_of_each (classes candidates) ≡ items_by_class model
 classes-are model candidates are =
     let of = λ (c : ℕ). filter (λ candidate. candidate.class == c) candidates in
-    let part = λ (c : ℕ). filtered nodes_of_each (λ candidate. candidate.class == c) (λ item. class model item == c) candidates (λ k d low. ap (λ n. n == c) (are.each k d low).class)
+    let part = λ (c : ℕ). filtered nodes_of_each (λ candidate. candidate.class == c)
+    (λ item. class model item == c) candidates (λ k d low. ap (λ n. n == c) (are.each k d low).class)
     ∙ ap (filter (λ item. class model item == c)) are.all in
     map-append nodes_of_each (of 0) (of 1 ++ (of 2 ++ []))
-    ∙ ap₂ (λ xs ys. xs ++ ys) (part 0) (map-append nodes_of_each (of 1) (of 2 ++ []) ∙ ap₂ (λ xs ys. xs ++ ys) (part 1) (map-append nodes_of_each (of 2) [] ∙ ap (λ xs. xs ++ []) (part 2)))
+    ∙ ap₂ (λ xs ys. xs ++ ys) (part 0)
+    (map-append nodes_of_each (of 1) (of 2 ++ []) ∙ ap₂ (λ xs ys. xs ++ ys) (part 1) (map-append nodes_of_each (of 2) [] ∙ ap (λ xs. xs ++ []) (part 2)))
 
 pub classes-more : (candidates : List Candidate) (c : ℕ)
     → each (below (c + 1)) (λ class. filter (λ candidate. candidate.class == class) candidates)
@@ -212,11 +224,15 @@ pub classes-candidates : (model : Model) (candidates : List Candidate) → All (
 classes-candidates model candidates are =
     let of = λ (c : ℕ). filter (λ candidate. candidate.class == c) candidates in
     let part = λ (c : ℕ). All-filter (λ candidate. candidate.class == c) (IsCandidate model) candidates are in
-    All-append (IsCandidate model) (of 0) (of 1 ++ (of 2 ++ [])) (part 0) (All-append (IsCandidate model) (of 1) (of 2 ++ []) (part 1) (All-append (IsCandidate model) (of 2) [] (part 2) (λ k d low. absurd (omega (arith, low)))))
+    All-append (IsCandidate model) (of 0) (of 1 ++ (of 2 ++ [])) (part 0)
+    (All-append (IsCandidate model) (of 1) (of 2 ++ []) (part 1)
+    (All-append (IsCandidate model) (of 2) [] (part 2) (λ k d low. absurd (omega (arith, low)))))
 
 -- the candidates by class that may begin become the single routes
-pub begun-singles : (model : Model) (ordered : List Candidate) → map nodes_of_each ordered ≡ items_by_class model → fold (route_begun model) [] (map nodes_of_each ordered) ≡ single_routes model [] (items_by_class model)
+pub begun-singles : (model : Model) (ordered : List Candidate) → map nodes_of_each ordered ≡ items_by_class model
+    → fold (route_begun model) [] (map nodes_of_each ordered) ≡ single_routes model [] (items_by_class model)
 begun-singles model ordered e = ap (fold (route_begun model) []) e ∙ singles-fold model [] (items_by_class model)
 
 pub AreApart-singles : (model : Model) → IsWellFormed model → AreApart model (single_routes model [] (items_by_class model))
-AreApart-singles model well_formed = subst (AreApart model) (singles-fold model [] (items_by_class model)) (AreApart-begun model (items_by_class model) [] (AreApart-items_by_class model well_formed))
+AreApart-singles model well_formed = subst (AreApart model) (singles-fold model [] (items_by_class model))
+    (AreApart-begun model (items_by_class model) [] (AreApart-items_by_class model well_formed))

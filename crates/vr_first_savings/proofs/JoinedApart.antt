@@ -1,5 +1,6 @@
 -- After a join the routes still stand apart.
-use Rattle.std.proofs.Common.{◌≡◌, ◌∙◌, ◌<◌, ◌++◌, ◌≢◌, ℕ, zero, suc, List, [], ◌∷◌, Bool, true, false, cond, not, refl, ap, ap₂, sym, arith, length, inl, inr, ◌⊎◌}
+use Rattle.std.proofs.Common.{◌≡◌, ◌∙◌, ◌<◌, ◌++◌, ◌≢◌, ℕ, zero, suc, List, [], ◌∷◌, Bool, true, false, cond, not, refl, ap, ap₂, sym, arith, length, inl, inr}
+use Rattle.std.proofs.Common.{◌⊎◌}
 use Rattle.std.specs.Prelude.{◌&&◌, ◌||◌, ◌==◌, filter}
 use Rattle.std.specs.List.{list_all, concat}
 use Rattle.std.proofs.lemmas.Bool.{eq-eqb}
@@ -21,7 +22,8 @@ use Rattle.vr_first_savings.specs.Joins.{AreApart, MayBeJoined, join_of}
 use Rattle.vr_first_savings.proofs.JoinLemmas.{apart-nodes, joined-visits, joined-distinct, some-route}
 
 -- a node that the routes that are kept do not have
-pub kept-absent : (p : List ℕ → Bool) (rs : List (List ℕ)) (x : ℕ) → ((k : ℕ) → k < length rs → p (route rs k) ≡ true → holds (route rs k) x ≡ false) → holds (concat (filter p rs)) x ≡ false
+pub kept-absent : (p : List ℕ → Bool) (rs : List (List ℕ)) (x : ℕ)
+    → ((k : ℕ) → k < length rs → p (route rs k) ≡ true → holds (route rs k) x ≡ false) → holds (concat (filter p rs)) x ≡ false
 kept-absent p [] x h = refl
 kept-absent p (r ∷ rs) x h = by (p r) refl (kept-absent p rs x (λ k low passes. h (suc k) (omega (arith, low)) passes))
   where
@@ -68,7 +70,8 @@ kept-other false false h = (λ e. clash false e refl, λ e. clash false e refl)
 same-first : (x y : ℕ) → x ≡ y → (x == y) ≡ true
 same-first x y e = eq-eqb x y e
 
-pub AreApart-joined : (model : Model) (routes : List (List ℕ)) (choice : JoinChoice) → AreApart model routes → MayBeJoined model routes choice → AreApart model (after_join routes (join_of routes choice))
+pub AreApart-joined : (model : Model) (routes : List (List ℕ)) (choice : JoinChoice) → AreApart model routes
+    → MayBeJoined model routes choice → AreApart model (after_join routes (join_of routes choice))
 AreApart-joined model routes choice are may =
     let join : Join = join_of routes choice in
     let keep = λ (list : List ℕ). not (is_part_of join list) in
@@ -79,11 +82,15 @@ AreApart-joined model routes choice are may =
           (let s = some-route model routes choice.front are may.front in omega (arith, length-append front back, s))
           (All-filter keep (λ route. 0 < length route) routes are.some);
       visits = list_all-append (is_visit model) (joined_route join) (concat (filter keep routes))
-          ∙ and_both (list_all (is_visit model) (joined_route join)) _ (joined-visits model routes choice.front choice.back are) (kept-all (is_visit model) keep routes are.visits);
-      distinct = is_distinct-both (joined_route join) (concat (filter keep routes)) (joined-distinct model routes choice.front choice.back are may.two) (kept-distinct keep routes are.distinct)
+          ∙ and_both (list_all (is_visit model) (joined_route join)) _
+          (joined-visits model routes choice.front choice.back are) (kept-all (is_visit model) keep routes are.visits);
+      distinct = is_distinct-both (joined_route join) (concat (filter keep routes))
+          (joined-distinct model routes choice.front choice.back are may.two) (kept-distinct keep routes are.distinct)
           (λ x h. kept-absent keep routes x (λ k low kept. nowhere x k (either front back x h)
-          (λ same. (kept-other (first_node (route routes k) == first_node front) (first_node (route routes k) == first_node back) kept).0 (same-first (first_node (route routes k)) (first_node front) (ap (λ i. first_node (route routes i)) same)))
-          (λ same. (kept-other (first_node (route routes k) == first_node front) (first_node (route routes k) == first_node back) kept).1 (same-first (first_node (route routes k)) (first_node back) (ap (λ i. first_node (route routes i)) same)))));
+          (λ same. (kept-other (first_node (route routes k) == first_node front) (first_node (route routes k) == first_node back) kept).0
+          (same-first (first_node (route routes k)) (first_node front) (ap (λ i. first_node (route routes i)) same)))
+          (λ same. (kept-other (first_node (route routes k) == first_node front) (first_node (route routes k) == first_node back) kept).1
+          (same-first (first_node (route routes k)) (first_node back) (ap (λ i. first_node (route routes i)) same)))));
     }
   where
     either : (xs ys : List ℕ) (x : ℕ) → holds (xs ++ ys) x ≡ true → (holds xs x ≡ true) ⊎ (holds ys x ≡ true)
@@ -94,6 +101,7 @@ AreApart-joined model routes choice are may =
         by false true e f g = inr f
         by false false e f g = absurd (clash (holds xs x || holds ys x) g (ap₂ (λ a b. a || b) e f))
 
-    nowhere : (x k : ℕ) → (holds (route routes choice.front) x ≡ true) ⊎ (holds (route routes choice.back) x ≡ true) → k ≢ choice.front → k ≢ choice.back → holds (route routes k) x ≡ false
+    nowhere : (x k : ℕ) → (holds (route routes choice.front) x ≡ true) ⊎ (holds (route routes choice.back) x ≡ true)
+        → k ≢ choice.front → k ≢ choice.back → holds (route routes k) x ≡ false
     nowhere x k (inl h) other other_too = apart-nodes routes choice.front k x are.distinct (λ same. other (sym same)) h
     nowhere x k (inr h) other other_too = apart-nodes routes choice.back k x are.distinct (λ same. other_too (sym same)) h

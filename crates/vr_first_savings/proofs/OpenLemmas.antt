@@ -1,5 +1,6 @@
 -- The lists at which savings end are open lists of the model, if its vehicles are alike.
-use Rattle.std.proofs.Common.{◌≡◌, ◌∙◌, ◌<◌, ◌≤◌, ◌++◌, ℕ, zero, suc, List, [], ◌∷◌, Bool, true, false, cond, not, Option, Some, None, refl, ap, sym, subst, arith, inl, inr, length, map, take}
+use Rattle.std.proofs.Common.{◌≡◌, ◌∙◌, ◌<◌, ◌≤◌, ◌++◌, ℕ, zero, suc, List, [], ◌∷◌, Bool, true, false, cond, not, Option, Some, None, refl, ap, sym, subst}
+use Rattle.std.proofs.Common.{arith, inl, inr, length, map, take}
 use Rattle.std.specs.Prelude.{◌||◌, ◌&&◌, ◌==◌, filter, count_by, nat_le, replicate, MatchOption, ℤ}
 use Rattle.std.specs.List.{list_all, list_any}
 use Rattle.std.proofs.lemmas.Bool.{eq-eqb}
@@ -16,7 +17,8 @@ use Rattle.vr_model.specs.routes.Rules.{active_in, fits_group, is_open, is_route
 use Rattle.vr_model.specs.first.Choosing.{least_by}
 use Rattle.vr_model.specs.search.ChoosingLaws.{IsFirstLeast}
 use Rattle.vr_model.specs.first.Items.{class, empty_lists, first_node}
-use Rattle.vr_model.specs.first.SavingsJoins.{Join, after_join, is_part_of, is_wanted, items_by_class, join_key, joined_route, joins, may_begin, may_join, merged, ranked, saving, savings, single_routes}
+use Rattle.vr_model.specs.first.SavingsJoins.{Join, after_join, is_part_of, is_wanted, items_by_class, join_key, joined_route, joins, may_begin, may_join}
+use Rattle.vr_model.specs.first.SavingsJoins.{merged, ranked, saving, savings, single_routes}
 use Rattle.vr_model.specs.deciding.Testing.{and_both, and_left, and_right}
 use Rattle.vr_model.proofs.first.LeastChoice.{least_first}
 use Rattle.vr_model.proofs.routes.Lists.{are_lists-count}
@@ -63,7 +65,8 @@ kept_fewer : (p q : ℕ → Bool) → ((x : ℕ) → p x ≡ true → q x ≡ tr
 kept_fewer p q h [] = omega arith
 kept_fewer p q h (x ∷ xs) = by (p x) (q x) (h x) (kept_fewer p q h xs)
   where
-    by : (a b : Bool) → (a ≡ true → b ≡ true) → length (filter p xs) ≤ length (filter q xs) → length (cond a (x ∷ filter p xs) (filter p xs)) ≤ length (cond b (x ∷ filter q xs) (filter q xs))
+    by : (a b : Bool) → (a ≡ true → b ≡ true) → length (filter p xs) ≤ length (filter q xs)
+        → length (cond a (x ∷ filter p xs) (filter p xs)) ≤ length (cond b (x ∷ filter q xs) (filter q xs))
     by true true i e = omega (arith, e)
     by true false i e = absurd (clash false (i refl) refl)
     by false true i e = omega (arith, e)
@@ -79,7 +82,8 @@ fewer_fit count more max low e = grind (arith, nat_tests)
 groups_within : (xs ys : List (List ℕ)) → Within xs ys → (groups : List Group) → list_all (fits_group ys) groups ≡ true → list_all (fits_group xs) groups ≡ true
 groups_within xs ys within [] e = refl
 groups_within xs ys within (g ∷ gs) e = and_both (fits_group xs g) (list_all (fits_group xs) gs)
-    (fewer_fit (active_in xs g) (active_in ys g) g.max (count_fewer (is_active xs) (is_active ys) within g.nodes) (and_left (fits_group ys g) (list_all (fits_group ys) gs) e))
+    (fewer_fit (active_in xs g) (active_in ys g) g.max (count_fewer (is_active xs) (is_active ys) within g.nodes)
+    (and_left (fits_group ys g) (list_all (fits_group ys) gs) e))
     (groups_within xs ys within gs (and_right (fits_group ys g) (list_all (fits_group ys) gs) e))
 
 -- ---- routes that vehicle 0 may drive
@@ -101,12 +105,14 @@ in_behind [] y list (inr there) k l = absurd there
 in_behind (x ∷ xs) y list (inl same) k l = k (inl same)
 in_behind (x ∷ xs) y list (inr there) k l = in_behind xs y list there (λ h. k (inr h)) l
 
-so_far_begun : (model : Model) (routes : List (List ℕ)) (item : List ℕ) → AreSoFar model routes → AreSoFar model (cond (may_begin model routes item) (routes ++ item ∷ []) routes)
+so_far_begun : (model : Model) (routes : List (List ℕ)) (item : List ℕ) → AreSoFar model routes
+    → AreSoFar model (cond (may_begin model routes item) (routes ++ item ∷ []) routes)
 so_far_begun model routes item so_far = by (may_begin model routes item) refl
   where
     by : (b : Bool) → may_begin model routes item ≡ b → AreSoFar model (cond b (routes ++ item ∷ []) routes)
     by true may = record {
-      opened = λ list there. in_behind routes item list there (so_far.opened list) (λ same. ap (is_route_open model 0) same ∙ and_left (is_route_open model 0 item) _ may);
+      opened = λ list there. in_behind routes item list there (so_far.opened list)
+          (λ same. ap (is_route_open model 0) same ∙ and_left (is_route_open model 0 item) _ may);
       fits = and_right (is_route_open model 0 item) _ may;
     }
     by false may = so_far
@@ -165,7 +171,8 @@ join_in model routes join there =
     record { front = subst (λ j. In routes j.front) (sym same) front_in; back = subst (λ j. In routes j.back) (sym same) back_in; may = kept.1 }
 
 -- routes that stand apart still do after a join
-apart-joined : (model : Model) (routes : List (List ℕ)) (join : Join) → AreApart model routes → IsJoin model routes join → AreApart model (after_join routes join)
+apart-joined : (model : Model) (routes : List (List ℕ)) (join : Join)
+    → AreApart model routes → IsJoin model routes join → AreApart model (after_join routes join)
 apart-joined model routes join apart is =
     route_number routes join.front is.front λ i i_low i_is.
     route_number routes join.back is.back λ j j_low j_is.
@@ -182,7 +189,8 @@ apart-joined model routes join apart is =
   where
     two : (i j : ℕ) → i ≡ j → not (first_node (route routes i) == first_node (route routes j)) ≡ true → ⊥
     two i j e apart =
-        let itself : not (first_node (route routes i) == first_node (route routes i)) ≡ true = ap (λ k. not (first_node (route routes i) == first_node (route routes k))) e ∙ apart in
+        let itself : not (first_node (route routes i) == first_node (route routes i)) ≡ true =
+        ap (λ k. not (first_node (route routes i) == first_node (route routes k))) e ∙ apart in
         clash (not (first_node (route routes i) == first_node (route routes i))) itself (ap not (eq-eqb (first_node (route routes i)) _ refl))
 
 holds-both : {C : Type 0} (xs ys : List ℕ) (x : ℕ) → holds (xs ++ ys) x ≡ true → (holds xs x ≡ true → C) → (holds ys x ≡ true → C) → C
@@ -202,10 +210,12 @@ joined-within : (routes : List (List ℕ)) (join : Join) → In routes join.fron
 joined-within routes join front back x active = of_active (after_join routes join) x active by
   where
     by : (list : List ℕ) → In (after_join routes join) list → holds list x ≡ true → is_active routes x ≡ true
-    by list (inl same) held = holds-both join.front join.back x (sym (ap (λ l. holds l x) same) ∙ held) (active_in_one routes join.front x front) (active_in_one routes join.back x back)
+    by list (inl same) held = holds-both join.front join.back x (sym (ap (λ l. holds l x) same) ∙ held)
+        (active_in_one routes join.front x front) (active_in_one routes join.back x back)
     by list (inr there) held = active_in_one routes list x (of_filter (λ list. not (is_part_of join list)) routes list there).0 held
 
-joined-driven : (model : Model) (routes : List (List ℕ)) (join : Join) → AreDriven model routes → IsJoin model routes join → AreDriven model (after_join routes join)
+joined-driven : (model : Model) (routes : List (List ℕ)) (join : Join)
+    → AreDriven model routes → IsJoin model routes join → AreDriven model (after_join routes join)
 joined-driven model routes join driven is = record {
   apart = apart-joined model routes join driven.apart is;
   each = by;
@@ -225,8 +235,10 @@ merged-driven model (suc n) routes driven = by (least_by (join_key model) (joins
     wanted join true is rest = rest (after_join routes join) (joined-driven model routes join driven is)
     wanted join false is rest = driven
 
-    by : (best : Option Join) → least_by (join_key model) (joins model routes) ≡ best → ((routes : List (List ℕ)) → AreDriven model routes → AreDriven model (merged model n routes))
-        → AreDriven model (elim best [ None ↦ routes | Some join ↦ elim (is_wanted model routes join) [ true ↦ merged model n (after_join routes join) | false ↦ routes ] ])
+    by : (best : Option Join) → least_by (join_key model) (joins model routes) ≡ best
+        → ((routes : List (List ℕ)) → AreDriven model routes → AreDriven model (merged model n routes))
+        → AreDriven model
+        (elim best [ None ↦ routes | Some join ↦ elim (is_wanted model routes join) [ true ↦ merged model n (after_join routes join) | false ↦ routes ] ])
     by None e rest = driven
     by (Some join) e rest = wanted join (is_wanted model routes join) (join_in model routes join (least_in (join_key model) (joins model routes) join e)) rest
 
@@ -234,7 +246,8 @@ merged-driven model (suc n) routes driven = by (least_by (join_key model) (joins
 
 ranked_in : (model : Model) (routes : List (List ℕ)) (list : List ℕ) → In (ranked model routes) list → In routes list
 ranked_in model routes list there =
-    from_each (λ c. each (visits model) λ node. filter (λ list. (class model list == c) && (first_node list == node)) routes) (from_to 0 3) list there λ c c_in of_class.
+    from_each (λ c. each (visits model) λ node. filter (λ list. (class model list == c) && (first_node list == node)) routes)
+    (from_to 0 3) list there λ c c_in of_class.
     from_each (λ node. filter (λ list. (class model list == c) && (first_node list == node)) routes) (visits model) list of_class λ node node_in at.
     (of_filter (λ list. (class model list == c) && (first_node list == node)) routes list at).0
 
@@ -246,7 +259,8 @@ ranked-driven model routes driven = record {
 }
 
 -- a list among the first of routes and empty lists is a route, or empty
-taken_in : {C : Type 0} (n m : ℕ) (routes : List (List ℕ)) (list : List ℕ) → In (take n (routes ++ replicate m [])) list → (In routes list → C) → (list ≡ [] → C) → C
+taken_in : {C : Type 0} (n m : ℕ) (routes : List (List ℕ)) (list : List ℕ)
+    → In (take n (routes ++ replicate m [])) list → (In routes list → C) → (list ≡ [] → C) → C
 taken_in zero m routes list there k l = absurd there
 taken_in (suc n) zero [] list there k l = absurd there
 taken_in (suc n) (suc m) [] list (inl same) k l = l same
@@ -265,7 +279,8 @@ unfolding is_open
 savings-built model well saved =
     let singles : List (List ℕ) = single_routes model [] (items_by_class model) in
     let routes : List (List ℕ) = ranked model (merged model (length singles) singles) in
-    let driven : AreDriven model routes = ranked-driven model (merged model (length singles) singles) (merged-driven model (length singles) singles (singles-driven model well)) in
+    let driven : AreDriven model routes = ranked-driven model (merged model (length singles) singles)
+    (merged-driven model (length singles) singles (singles-driven model well)) in
     let lists : List (List ℕ) = savings model in
     let are : are_lists model lists ≡ true = are_lists-first model routes driven.apart in
     let alike = saved-alike model well saved in
@@ -277,9 +292,11 @@ savings-built model well saved =
           (each_passes (λ v. is_route_open model v (route lists v)) (vehicles lists) (λ v there.
           let low : v < length lists = of_below (length lists) v there in
           open-alike model alike v 0 (omega (arith, low, count)) some (route lists v)
-          ∙ taken_in (length model.vehicles) (length model.vehicles) routes (route lists v) (route_in lists v low) (driven.each (route lists v)) (λ empty. ap (is_route_open model 0) empty)))
+          ∙ taken_in (length model.vehicles) (length model.vehicles) routes (route lists v)
+          (route_in lists v low) (driven.each (route lists v)) (λ empty. ap (is_route_open model 0) empty)))
           (groups_within lists routes (λ x active. of_active lists x active (λ list there held.
-          taken_in (length model.vehicles) (length model.vehicles) routes list there (λ in_routes. active_in_one routes list x in_routes held) (λ empty. absurd (clash false (sym (ap (λ l. holds l x) empty) ∙ held) refl)))) model.groups driven.fits);
+          taken_in (length model.vehicles) (length model.vehicles) routes list there (λ in_routes. active_in_one routes list x in_routes held)
+          (λ empty. absurd (clash false (sym (ap (λ l. holds l x) empty) ∙ held) refl)))) model.groups driven.fits);
     }
   where
     each_passes : (p : ℕ → Bool) (xs : List ℕ) → ((x : ℕ) → In xs x → p x ≡ true) → list_all p xs ≡ true

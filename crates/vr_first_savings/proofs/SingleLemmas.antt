@@ -28,20 +28,26 @@ or-behind false false = refl
 active-behind : (routes : List (List ℕ)) (route : List ℕ) (node : ℕ) → is_active (routes ++ route ∷ []) node ≡ (holds route node || is_active routes node)
 active-behind routes route node = list_any-append (λ list. holds list node) routes (route ∷ []) ∙ or-behind (is_active routes node) (holds route node)
 
-fits-behind : (model : Model) (routes : List (List ℕ)) (route : List ℕ) → list_all (fits_group (routes ++ route ∷ [])) model.groups ≡ fits_beside model routes route
+fits-behind : (model : Model) (routes : List (List ℕ)) (route : List ℕ)
+    → list_all (fits_group (routes ++ route ∷ [])) model.groups ≡ fits_beside model routes route
 fits-behind model routes route = list_all-within (fits_group (routes ++ route ∷ [])) (fits_group (route ∷ routes)) model.groups (λ g d low.
     let group = get_or model.groups g d in
-    ap (λ n. nat_le n group.max) (count_by-within (is_active (routes ++ route ∷ [])) (is_active (route ∷ routes)) group.nodes (λ k node node_low. active-behind routes route (get_or group.nodes k node))))
+    ap (λ n. nat_le n group.max)
+    (count_by-within (is_active (routes ++ route ∷ [])) (is_active (route ∷ routes))
+    group.nodes (λ k node node_low. active-behind routes route (get_or group.nodes k node))))
 
 pub AreMarks-behind : (nodes : ℕ) (routes : List (List ℕ)) (route : List ℕ) (marks marked : List Bool) → AreMarks nodes routes marks
-    → length marked ≡ length marks → ((node : ℕ) (d : Bool) → node < length marks → slice_index_or marked node d ≡ (holds route node || slice_index_or marks node d))
+    → length marked ≡ length marks
+    → ((node : ℕ) (d : Bool) → node < length marks → slice_index_or marked node d ≡ (holds route node || slice_index_or marks node d))
     → AreMarks nodes (routes ++ route ∷ []) marked
 AreMarks-behind nodes routes route marks marked are count each = record {
   one_of_each = count ∙ are.one_of_each;
-  each = λ node d low. each node d (subst (λ n. node < n) (sym are.one_of_each) low) ∙ ap (λ b. holds route node || b) (are.each node d low) ∙ sym (active-behind routes route node);
+  each = λ node d low. each node d (subst (λ n. node < n) (sym are.one_of_each) low)
+      ∙ ap (λ b. holds route node || b) (are.each node d low) ∙ sym (active-behind routes route node);
 }
 
-module _ (model : Model) (well_formed : IsWellFormed model) (routes : List (List ℕ)) (marks : List Bool) (item : Item) (are : AreMarks model.nodes routes marks) where
+module _ (model : Model) (well_formed : IsWellFormed model) (routes : List (List ℕ))
+    (marks : List Bool) (item : Item) (are : AreMarks model.nodes routes marks) where
   room : list_all (has_room marks item) model.groups ≡ list_all (fits_group (routes ++ item_nodes item ∷ [])) model.groups
   room = fits_beside-marks model well_formed routes marks item are ∙ sym (fits-behind model routes (item_nodes item))
 
@@ -57,8 +63,10 @@ module _ (model : Model) (well_formed : IsWellFormed model) (routes : List (List
   begun-closed h = kept (ap (λ b. b && list_all (fits_group (routes ++ item_nodes item ∷ [])) model.groups) h)
 
   -- it may
-  pub begun-open : list_all (has_room marks item) model.groups ≡ true → is_route_open model 0 (item_nodes item) ≡ true → routes ++ item_nodes item ∷ [] ≡ route_begun model routes (item_nodes item)
-  begun-open h passes = sym (ap (λ b. cond (is_route_open model 0 (item_nodes item) && b) (routes ++ item_nodes item ∷ []) routes) (sym room ∙ h) ∙ ap (λ b. cond (b && true) (routes ++ item_nodes item ∷ []) routes) passes)
+  pub begun-open : list_all (has_room marks item) model.groups ≡ true → is_route_open model 0 (item_nodes item) ≡ true
+      → routes ++ item_nodes item ∷ [] ≡ route_begun model routes (item_nodes item)
+  begun-open h passes = sym (ap (λ b. cond (is_route_open model 0 (item_nodes item) && b) (routes ++ item_nodes item ∷ []) routes) (sym room ∙ h)
+      ∙ ap (λ b. cond (b && true) (routes ++ item_nodes item ∷ []) routes) passes)
 
 -- ---- all in turn
 

@@ -1,5 +1,6 @@
 -- Readings of numbers and arrays that are written out: a reader gives what was written.
-use Rattle.std.proofs.Common.{◌≡◌, ◌∙◌, ℕ, zero, suc, ◌+◌, ◌<◌, ◌≤◌, Bool, true, false, List, [], ◌∷◌, ◌++◌, map, length, get_or, Some, None, Result, Ok, Err, refl, sym, ap, subst, arith, append_assoc, append-nil}
+use Rattle.std.proofs.Common.{◌≡◌, ◌∙◌, ℕ, zero, suc, ◌+◌, ◌<◌, ◌≤◌, Bool, true, false, List, [], ◌∷◌, ◌++◌, map, length, get_or, Some, None, Result, Ok, Err}
+use Rattle.std.proofs.Common.{refl, sym, ap, subst, arith, append_assoc, append-nil}
 use Rattle.std.specs.Prelude.{ℤ, pos, ◌-ℤ◌, ◌^◌, nat_lt, ◌≤ℤ◌, if◌then◌else◌}
 use Rattle.std.specs.List.{All, range_with_len}
 use Rattle.std.specs.Option.{ok_or}
@@ -32,7 +33,8 @@ module _ (n : ℕ) (few : n < 2 ^ 63) where
   unfolding and_then
   whole_is lo hi low high =
       let small : nat_lt n (2 ^ 63) ≡ true = lt-ltb n (2 ^ 63) few in
-      step _ (ap (λ b. ok_or (if b then Some (pos n) else None) NotWhole) small) (ap (λ b. if b then Ok (pos n) else Err OutOfRange) (test_of_within lo hi (pos n) low high))
+      step _ (ap (λ b. ok_or (if b then Some (pos n) else None) NotWhole) small)
+      (ap (λ b. if b then Ok (pos n) else Err OutOfRange) (test_of_within lo hi (pos n) low high))
 
   -- a number in its range
   pub whole_reads : (lo hi : ℤ) (path : List ℕ) → lo ≤ℤ pos n → pos n ≤ℤ hi → whole lo hi path (count n) ≡ Ok (pos n)
@@ -57,7 +59,8 @@ list_reads lo hi path ds low high =
     ∙ ap (λ b. if b then Ok ds else Err (fault_at WrongLength path)) (and_from _ _ (le-leb lo (length ds) low) (le-leb (length ds) hi high))
 
 -- an array whose entries are read one after another
-array_by : {A : Type 0} (read : List A → ReaderOf A) {xs : List A} (lo hi : ℕ) (path : List ℕ) (ds : List Data) → lo ≤ length ds → length ds ≤ hi → entries read [] path ds ≡ Ok xs
+array_by : {A : Type 0} (read : List A → ReaderOf A) {xs : List A} (lo hi : ℕ) (path : List ℕ) (ds : List Data)
+    → lo ≤ length ds → length ds ≤ hi → entries read [] path ds ≡ Ok xs
     → array_of lo hi read path (array (items_of ds)) ≡ Ok xs
 unfolding array_of
 array_by read lo hi path ds low high h = step (entries read [] path) (list_reads lo hi path ds low high) h
@@ -75,7 +78,8 @@ module _ {A B : Type 0} (read : List B → ReaderOf B) (f : A → Data) (g : A �
       (entries_each path xs (All-tail ReadsAs x xs h) (earlier ++ g x ∷ []) ∙ ap Ok (append_assoc earlier (g x ∷ []) (map g xs)))
 
   -- an array of such entries
-  pub array_each : (lo hi : ℕ) (path : List ℕ) (xs : List A) → lo ≤ length xs → length xs ≤ hi → All ReadsAs xs → array_of lo hi read path (listed f xs) ≡ Ok (map g xs)
+  pub array_each : (lo hi : ℕ) (path : List ℕ) (xs : List A) → lo ≤ length xs
+      → length xs ≤ hi → All ReadsAs xs → array_of lo hi read path (listed f xs) ≡ Ok (map g xs)
   array_each lo hi path xs low high h =
       let count = length-map xs f in
       array_by read lo hi path (map f xs) (omega (arith, low, count)) (omega (arith, high, count)) (entries_each path xs h [])
@@ -88,13 +92,15 @@ module _ {B : Type 0} (read : List B → ReaderOf B) (f : ℕ → Data) (g : ℕ
   entries_below path (suc m) k high =
       let rest : List ℕ = range_with_len (k + 1) m in
       step (λ y. entries read (map g (below k) ++ y ∷ []) path (map f rest)) (h k _ (omega (arith, high)))
-      (ap (λ earlier. entries read earlier path (map f rest)) (sym (map-below_more g k)) ∙ entries_below path m (k + 1) (omega (arith, high)) ∙ ap (λ i. Ok (map g (below i))) (omega arith))
+      (ap (λ earlier. entries read earlier path (map f rest)) (sym (map-below_more g k))
+      ∙ entries_below path m (k + 1) (omega (arith, high)) ∙ ap (λ i. Ok (map g (below i))) (omega arith))
 
   -- an array of entries by number, each read behind those of lesser numbers
   pub array_below : (lo hi : ℕ) (path : List ℕ) → lo ≤ n → n ≤ hi → array_of lo hi read path (listed f (below n)) ≡ Ok (map g (below n))
   array_below lo hi path low high =
       let count : length (map f (below n)) ≡ n = length-map (below n) f ∙ length-range_with_len 0 n in
-      array_by read lo hi path (map f (below n)) (omega (arith, low, count)) (omega (arith, high, count)) (entries_below path n 0 (omega arith) ∙ ap (λ i. Ok (map g (below i))) (omega arith))
+      array_by read lo hi path (map f (below n)) (omega (arith, low, count)) (omega (arith, high, count))
+      (entries_below path n 0 (omega arith) ∙ ap (λ i. Ok (map g (below i))) (omega arith))
 
 -- ---- numbers below a bound
 

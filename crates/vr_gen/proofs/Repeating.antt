@@ -11,7 +11,8 @@ pub record Goes {A : Type 0} (next : Lcg → A × Lcg) (drawn : List A) (left : 
 pub begins : {A : Type 0} (next : Lcg → A × Lcg) (n : ℕ) (words : Lcg) → Goes next [] n words (repeated next n words)
 begins next n words = record { items = refl; words_then = refl }
 
-pub goes_on : {A : Type 0} (next : Lcg → A × Lcg) (drawn : List A) (n k : ℕ) (words : Lcg) (all : List A × Lcg) → k < n → Goes next drawn (n - k) words all → Goes next (drawn ++ (next words).0 ∷ []) (n - (k + 1)) (next words).1 all
+pub goes_on : {A : Type 0} (next : Lcg → A × Lcg) (drawn : List A) (n k : ℕ) (words : Lcg) (all : List A × Lcg) → k < n
+    → Goes next drawn (n - k) words all → Goes next (drawn ++ (next words).0 ∷ []) (n - (k + 1)) (next words).1 all
 goes_on next drawn n k words all low h =
     let e : n - k ≡ suc (n - (k + 1)) = omega (arith, low) in
     let g = subst (λ m. Goes next drawn m words all) e h in
@@ -21,14 +22,16 @@ goes_on next drawn n k words all low h =
     }
 
 -- one more was drawn, and stands behind those so far
-pub drawn_on : {A : Type 0} (next : Lcg → A × Lcg) (drawn longer : List A) (n k : ℕ) (words later : Lcg) {x : A} (all : List A × Lcg) → (x, later) ≡ next words → longer ≡ drawn ++ x ∷ [] → k < n → Goes next drawn (n - k) words all → Goes next longer (n - (k + 1)) later all
+pub drawn_on : {A : Type 0} (next : Lcg → A × Lcg) (drawn longer : List A) (n k : ℕ) (words later : Lcg) {x : A} (all : List A × Lcg)
+    → (x, later) ≡ next words → longer ≡ drawn ++ x ∷ [] → k < n → Goes next drawn (n - k) words all → Goes next longer (n - (k + 1)) later all
 drawn_on next drawn longer n k words later all here behind low h =
     let is : longer ≡ drawn ++ (next words).0 ∷ [] = behind ∙ ap (λ p. drawn ++ p.0 ∷ []) here in
     let there : later ≡ (next words).1 = ap (λ p. p.1) here in
     subst (λ s. Goes next s (n - (k + 1)) later all) (sym is)
     (subst (λ w. Goes next (drawn ++ (next words).0 ∷ []) (n - (k + 1)) w all) (sym there) (goes_on next drawn n k words all low h))
 
-pub stops : {A : Type 0} (next : Lcg → A × Lcg) (drawn : List A) (n k : ℕ) (words : Lcg) (all : List A × Lcg) → n ≤ k → Goes next drawn (n - k) words all → (drawn, words) ≡ all
+pub stops : {A : Type 0} (next : Lcg → A × Lcg) (drawn : List A) (n k : ℕ) (words : Lcg) (all : List A × Lcg)
+    → n ≤ k → Goes next drawn (n - k) words all → (drawn, words) ≡ all
 stops next drawn n k words all high h =
     let e : n - k ≡ 0 = omega (arith, high) in
     let g = subst (λ m. Goes next drawn m words all) e h in

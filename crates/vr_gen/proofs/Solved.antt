@@ -54,22 +54,27 @@ module _ (sites : List Site) (customers : List Customer) where
   grouped (suc k) visit =
       let low : suc k < 61 = lt_of_test (suc k) 61 (and_left (nat_lt (suc k) 61) _ visit) in
       list_any-map group_read (λ group. holds group.nodes (suc k)) (below 60)
-      ∙ range_list_any (λ i. holds (group_read i).nodes (suc k)) 0 60 k (omega arith) (omega (arith, low)) (ap (λ b. b || false) (eq-eqb (suc k) (k + 1) (omega arith)))
+      ∙ range_list_any (λ i. holds (group_read i).nodes (suc k)) 0 60 k (omega arith)
+      (omega (arith, low)) (ap (λ b. b || false) (eq-eqb (suc k) (k + 1) (omega arith)))
 
   idle : MayStayIdle (model_read sites customers)
   idle = record {
     each_grouped = grouped;
-    each_penalty = list_all-map (λ group. is_penalty_given group.penalty) group_read (below 60) ∙ list_all-true (λ k. is_penalty_given (group_read k).penalty) (λ k. refl) (below 60);
+    each_penalty = list_all-map (λ group. is_penalty_given group.penalty) group_read (below 60)
+        ∙ list_all-true (λ k. is_penalty_given (group_read k).penalty) (λ k. refl) (below 60);
   }
 
 -- the first solution is the construction's, where that is valid
-first_by_insertion : (model : Model) → model.search.first ≡ ParallelCheapestInsertion → is_valid model (parallel_cheapest_insertion model) ≡ true → first_lists model ≡ Some (parallel_cheapest_insertion model)
+first_by_insertion : (model : Model) → model.search.first ≡ ParallelCheapestInsertion
+    → is_valid model (parallel_cheapest_insertion model) ≡ true → first_lists model ≡ Some (parallel_cheapest_insertion model)
 unfolding first_lists build
 first_by_insertion model named valid =
-    ap (λ first. cond (is_valid model (build_by first model)) (Some (build_by first model)) None) named ∙ ap (λ b. cond b (Some (parallel_cheapest_insertion model)) None) valid
+    ap (λ first. cond (is_valid model (build_by first model)) (Some (build_by first model)) None) named
+    ∙ ap (λ b. cond b (Some (parallel_cheapest_insertion model)) None) valid
 
 -- where reading gives this model, it is solved
-solved : (sites : List Site) (customers : List Customer) (path : List ℕ) → length sites ≡ 61 → length customers ≡ 60 → All IsNear sites → All IsModest customers → IsSolved (read_model path (model_of sites customers))
+solved : (sites : List Site) (customers : List Customer) (path : List ℕ) → length sites ≡ 61 → length customers ≡ 60
+    → All IsNear sites → All IsModest customers → IsSolved (read_model path (model_of sites customers))
 solved sites customers path sites_all customers_all near modest =
     let model = model_read sites customers in
     let is = model_reads sites customers path sites_all customers_all near modest in
@@ -77,7 +82,8 @@ solved sites customers path sites_all customers_all near modest =
       model = model;
       is_read = is;
       lists = parallel_cheapest_insertion model;
-      are_first = first_by_insertion model refl (insertion_valid model (well_formed_from_read path (model_of sites customers) model is) refl (idle sites customers));
+      are_first =
+          first_by_insertion model refl (insertion_valid model (well_formed_from_read path (model_of sites customers) model is) refl (idle sites customers));
     }
 
 pub generated_models_are_solved : (number : ℕ) (path : List ℕ) → IsSolved (read_model path (generated number))

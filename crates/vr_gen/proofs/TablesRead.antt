@@ -8,7 +8,8 @@ use Rattle.std.proofs.lemmas.List.Elements.{All-weaker, All-map, All-cons, All-r
 use Rattle.std.proofs.lemmas.List.Folds.{list_any_none}
 use Rattle.vr_json.proofs.Lists.{list_any-map}
 use Rattle.vr_json.specs.declared.fault.Cause.TheVariants.{Repeated, Reversed, NotAVisit}
-use Rattle.vr_json.specs.Reading.{ReaderOf, and_then, at_path, field, if_present, required, optional, present, maybe, known, if_unknown, list, array as array_of, entries, first_two, two_entries, for_each, refuse_if}
+use Rattle.vr_json.specs.Reading.{ReaderOf, and_then, at_path, field, if_present, required, optional, present, maybe, known, if_unknown, list}
+use Rattle.vr_json.specs.Reading.{array as array_of, entries, first_two, two_entries, for_each, refuse_if}
 use Rattle.vr_json.specs.Kinds.{whole, below as below_n, count as count_of, text, flag, choice}
 use Rattle.vr_model.specs.tables.Numbers.{below, horizon}
 use Rattle.vr_model.specs.tables.Limits.{least_value, greatest_value, greatest_cost}
@@ -35,7 +36,8 @@ use Rattle.vr_read.specs.Visits.{group_node, group as group_of}
 use Rattle.vr_read.specs.Searches.{choices, default_search, search_row as search_of}
 use Rattle.vr_gen.specs.declared.draws.Site.{Site}
 use Rattle.vr_gen.specs.declared.draws.Customer.{Customer}
-use Rattle.vr_gen.specs.Generated.{apart, distance_entry, row, matrix, values, vehicle, pause, rest, window, services, times, demand_of, loads, dimensions, group, search_row}
+use Rattle.vr_gen.specs.Generated.{apart, distance_entry, row, matrix, values, vehicle, pause, rest, window, services, times, demand_of, loads, dimensions}
+use Rattle.vr_gen.specs.Generated.{group, search_row}
 use Rattle.vr_json.specs.Trees.{count, listed}
 use Rattle.vr_gen.proofs.ExactReadings.{All-below, ReadsAs, step, whole_reads, below_reads, array_each, array_below, refuse_none}
 
@@ -73,7 +75,8 @@ module _ (n : ℕ) (sites : List Site) (all : length sites ≡ n) (near : All Is
 
   row_reads : (a : Site) → IsNear a → ReadsAs row_of (row sites) (row_read sites) a
   row_reads a h earlier path =
-      array_each entry_of (distance_entry a) (λ b. pos (distance_read a b)) n n path sites (omega (arith, all)) (omega (arith, all)) (All-weaker IsNear (ReadsAs entry_of (distance_entry a) (λ b. pos (distance_read a b))) each sites near)
+      array_each entry_of (distance_entry a) (λ b. pos (distance_read a b)) n n path sites (omega (arith, all))
+      (omega (arith, all)) (All-weaker IsNear (ReadsAs entry_of (distance_entry a) (λ b. pos (distance_read a b))) each sites near)
     where
       each : (b : Site) → IsNear b → ReadsAs entry_of (distance_entry a) (λ b. pos (distance_read a b)) b
       each b k so_far path =
@@ -83,7 +86,9 @@ module _ (n : ℕ) (sites : List Site) (all : length sites ≡ n) (near : All Is
   pub matrix_reads : (path : List ℕ) → matrix_of n path (matrix sites) ≡ Ok (matrix_read sites)
   unfolding matrix_of and_then
   matrix_reads path =
-      step _ (array_each row_of (row sites) (row_read sites) n n path sites (omega (arith, all)) (omega (arith, all)) (All-weaker IsNear (ReadsAs row_of (row sites) (row_read sites)) row_reads sites near)) refl
+      step _
+      (array_each row_of (row sites) (row_read sites) n n path sites (omega (arith, all)) (omega (arith, all))
+      (All-weaker IsNear (ReadsAs row_of (row sites) (row_read sites)) row_reads sites near)) refl
 
 -- ---- vehicles
 
@@ -99,11 +104,13 @@ vehicle_reads path = refl
 
 -- each node but 0 is a visit
 no_terminal : (k : ℕ) → is_terminal vehicles_read (k + 1) ≡ false
-no_terminal k = none_below (λ v. (v.start == k + 1) || (v.end == k + 1)) (λ v. vehicle_read) 6 (λ i low. ap (λ b. b || b) (differ 0 (k + 1) (λ e. omega (arith, e))))
+no_terminal k =
+    none_below (λ v. (v.start == k + 1) || (v.end == k + 1)) (λ v. vehicle_read) 6 (λ i low. ap (λ b. b || b) (differ 0 (k + 1) (λ e. omega (arith, e))))
 
 visit_reads : (k : ℕ) (path : List ℕ) → k < 60 → visit 61 vehicles_read path (count (k + 1)) ≡ Ok (k + 1)
 unfolding visit and_then
-visit_reads k path low = step _ (below_reads (k + 1) (omega (arith, low)) 61 path (omega (arith, low))) (step _ (refuse_none NotAVisit path (no_terminal k)) refl)
+visit_reads k path low =
+    step _ (below_reads (k + 1) (omega (arith, low)) 61 path (omega (arith, low))) (step _ (refuse_none NotAVisit path (no_terminal k)) refl)
 
 -- a number that is no lesser one
 later : (i k : ℕ) → i < k → (i + 1 == k + 1) ≡ false
@@ -125,7 +132,8 @@ window_read customers k = record {
 in_order : (n : ℕ) → int_lt (pos (n + 4000)) (pos n) ≡ false
 in_order n = grind (arith, ints)
 
-interval_reads : (lo : ℕ) (path : List ℕ) → lo < 8000 → interval path (listed count (lo ∷ ((lo + 4000) ∷ []))) ≡ Ok (record { lo = pos lo; hi = pos (lo + 4000) })
+interval_reads : (lo : ℕ) (path : List ℕ) → lo < 8000
+    → interval path (listed count (lo ∷ ((lo + 4000) ∷ []))) ≡ Ok (record { lo = pos lo; hi = pos (lo + 4000) })
 unfolding interval two_entries first_two list at_path and_then
 interval_reads lo path early =
     step _ (step _ (whole_reads lo (omega (arith, early)) (pos 0) horizon _ (omega (arith, ints)) (omega (arith, ints, early)))
@@ -170,7 +178,8 @@ values_read_as : (n : ℕ) (lo : ℤ) (others : List ℕ) (path : List ℕ) → 
     → array_of n n (λ so_far. whole lo greatest_value) path (values others) ≡ Ok (values_read others)
 values_read_as n lo others path all low few =
     array_each (λ so_far. whole lo greatest_value) count pos n n path (0 ∷ others) (omega (arith, all)) (omega (arith, all))
-    (All-weaker (λ m. m ≤ 20000) (ReadsAs (λ so_far. whole lo greatest_value) count pos) (λ m h so_far path. whole_reads m (omega (arith, h)) lo greatest_value path (omega (arith, ints, low)) (omega (arith, ints, h))) (0 ∷ others)
+    (All-weaker (λ m. m ≤ 20000) (ReadsAs (λ so_far. whole lo greatest_value) count pos)
+    (λ m h so_far path. whole_reads m (omega (arith, h)) lo greatest_value path (omega (arith, ints, low)) (omega (arith, ints, h))) (0 ∷ others)
     (All-cons (λ m. m ≤ 20000) 0 others (omega arith) few))
 
 -- the dimension of times
@@ -210,19 +219,24 @@ module _ (customers : List Customer) (path : List ℕ) where
   unfolding times transits evaluator below_n required optional maybe present known if_unknown field if_present array_of list entries at_path and_then
   times_transits = step _ (step _ (step _ (values_read_as 61 least_value services _ refl (omega (arith, ints)) few_services) refl) refl) refl
 
-  times_bounds : bounds 61 6 path (times customers) ≡ Ok (record { slack_max = pos 20000; capacities = replicate 6 (pos 20000); fix_start = false; visit = values_read services })
+  times_bounds : bounds 61 6 path (times customers)
+      ≡ Ok (record { slack_max = pos 20000; capacities = replicate 6 (pos 20000); fix_start = false; visit = values_read services })
   unfolding times bounds capped whole for_each required optional field if_present at_path and_then
   times_bounds = step _ (values_read_as 61 (pos 0) services _ refl (omega (arith, ints)) few_services) refl
 
   times_rows : length customers ≡ 60 → All IsModest customers
-      → rows 61 6 vehicles_read path (times customers) ≡ Ok (record { nodes = map (window_read customers) (below 60); starts = []; ends = []; breaks = map rest_read (below 6) })
+      → rows 61 6 vehicles_read path (times customers)
+      ≡ Ok (record { nodes = map (window_read customers) (below 60); starts = []; ends = []; breaks = map rest_read (below 6) })
   unfolding times rows optional field if_present at_path and_then
   times_rows all modest = step _ (windows_read _) (step _ (array_below (vehicle_breaks 6) rest rest_read 6 rest_reads 0 100 _ (omega arith) (omega arith)) refl)
     where
-      windows_read : (path : List ℕ) → array_of 0 1000 window_of path (listed (window customers) (below (length customers))) ≡ Ok (map (window_read customers) (below 60))
+      windows_read : (path : List ℕ)
+          → array_of 0 1000 window_of path (listed (window customers) (below (length customers))) ≡ Ok (map (window_read customers) (below 60))
       windows_read path =
           ap (λ n. array_of 0 1000 window_of path (listed (window customers) (below n))) all
-          ∙ array_below window_of (window customers) (window_read customers) 60 (λ k path low. window_reads customers k path (modest k (record { lo = 0; demand = 0 }) (omega (arith, low, all))).early low) 0 1000 path (omega arith) (omega arith)
+          ∙ array_below window_of (window customers) (window_read customers) 60
+          (λ k path low. window_reads customers k path (modest k (record { lo = 0; demand = 0 }) (omega (arith, low, all))).early low)
+          0 1000 path (omega arith) (omega arith)
 
   times_reads : length customers ≡ 60 → All IsModest customers → dimension 61 1 6 vehicles_read [] path (times customers) ≡ Ok (times_read customers)
   unfolding times dimension name text span_costs required optional known if_unknown field if_present refuse_if at_path and_then
@@ -250,15 +264,22 @@ loads_read customers = record {
 }
 
 module _ (customers : List Customer) (path : List ℕ) where
-  loads_transits : length customers ≡ 60 → All IsModest customers → transits 61 1 6 path (loads customers) ≡ Ok (record { evaluators = loads_evaluator customers ∷ []; vehicle_evaluators = replicate 6 0 })
+  loads_transits : length customers ≡ 60 → All IsModest customers
+      → transits 61 1 6 path (loads customers) ≡ Ok (record { evaluators = loads_evaluator customers ∷ []; vehicle_evaluators = replicate 6 0 })
   unfolding loads transits evaluator required optional maybe present known if_unknown field if_present array_of list entries at_path and_then
-  loads_transits all modest = step _ (step _ (step _ (values_read_as 61 least_value (map demand_of customers) _ (omega (arith, all, length-map customers demand_of)) (omega (arith, ints)) few) refl) refl) refl
+  loads_transits all modest = step _
+      (step _
+      (step _ (values_read_as 61 least_value (map demand_of customers) _ (omega (arith, all, length-map customers demand_of)) (omega (arith, ints)) few) refl)
+      refl) refl
     where
       few : AreFew (map demand_of customers)
-      few = All-map (λ n. n ≤ 20000) demand_of customers (All-weaker IsModest (λ customer. customer.demand ≤ 20000) (λ customer h. omega (arith, h.few)) customers modest)
+      few = All-map (λ n. n ≤ 20000) demand_of customers
+          (All-weaker IsModest (λ customer. customer.demand ≤ 20000) (λ customer h. omega (arith, h.few)) customers modest)
 
-  loads_reads : length customers ≡ 60 → All IsModest customers → dimension 61 1 6 vehicles_read (times_read customers ∷ []) path (loads customers) ≡ Ok (loads_read customers)
-  unfolding loads dimension name text bounds capped whole flag for_each rows span_costs required optional known if_unknown field if_present refuse_if at_path and_then
+  loads_reads : length customers ≡ 60 → All IsModest customers
+      → dimension 61 1 6 vehicles_read (times_read customers ∷ []) path (loads customers) ≡ Ok (loads_read customers)
+  unfolding loads dimension name text bounds capped whole flag for_each rows span_costs
+      required optional known if_unknown field if_present refuse_if at_path and_then
   loads_reads all modest = step _ (loads_transits all modest) refl
 
 abbrev pub dimensions_read : List Customer → List Dimension
@@ -279,7 +300,8 @@ unfolding group_of group_node whole required optional maybe present known if_unk
 group_reads k path low = step _ (step _ (step _ (visit_reads k _ low) (step _ (refuse_none Repeated _ fresh) refl)) refl) refl
   where
     fresh : (list_any (λ group. holds group.nodes (k + 1)) (map group_read (below k)) || holds [] (k + 1)) ≡ false
-    fresh = ap (λ b. b || false) (none_below (λ group. holds group.nodes (k + 1)) group_read k (λ i first. ap (λ b. b || false) (differ (k + 1) (i + 1) (λ e. omega (arith, e, first)))))
+    fresh = ap (λ b. b || false)
+        (none_below (λ group. holds group.nodes (k + 1)) group_read k (λ i first. ap (λ b. b || false) (differ (k + 1) (i + 1) (λ e. omega (arith, e, first)))))
 
 -- ---- the search
 

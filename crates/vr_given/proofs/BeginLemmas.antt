@@ -20,7 +20,8 @@ pub first_lists-valid : (model : Model) (lists : List (List ℕ)) → first_list
 unfolding first_lists
 first_lists-valid model lists e = chosen-valid model (build model) lists e
 
-pub begin-valid : (model : Model) (given : Option (List (List ℕ))) (lists : List (List ℕ)) → begin_lists model given ≡ Some lists → IsTrue (is_valid model lists)
+pub begin-valid : (model : Model) (given : Option (List (List ℕ))) (lists : List (List ℕ))
+    → begin_lists model given ≡ Some lists → IsTrue (is_valid model lists)
 unfolding begin_lists
 begin-valid model None lists e = first_lists-valid model lists e
 begin-valid model (Some given) lists e = of_taken (taken_up model given) e

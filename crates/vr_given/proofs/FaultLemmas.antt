@@ -42,9 +42,12 @@ module _ (model : Model) (lists : List (List ℕ)) where
   -- ---- no fault, so valid
 
   -- the line of a used list has a schedule
-  has_schedule : schedule_broken model lists ≡ None → (v : ℕ) → v < length lists → is_empty (route lists v) ≡ false → (d : ℕ) → d < length model.dimensions → IsTrue (is_feasible (line model d v (route lists v)))
+  has_schedule : schedule_broken model lists ≡ None → (v : ℕ) → v < length lists → is_empty (route lists v) ≡ false
+      → (d : ℕ) → d < length model.dimensions → IsTrue (is_feasible (line model d v (route lists v)))
   has_schedule none v low used d less =
-      let fits = is_right (is_feasible_list model d v (route lists v)) (spot v d) (at_none (schedule_broken_at model v (route lists v)) (length model.dimensions) (at_none (schedule_broken_in model lists) (length lists) none v low) d less) in
+      let fits = is_right (is_feasible_list model d v (route lists v)) (spot v d)
+      (at_none (schedule_broken_at model v (route lists v)) (length model.dimensions)
+      (at_none (schedule_broken_in model lists) (length lists) none v low) d less) in
       sym (ap (λ b. b || is_feasible (line model d v (route lists v))) used) ∙ fits
 
   valid_where_none : IsTrue (are_lists model lists) → fault_of_lists model lists ≡ None → IsTrue (is_valid model lists)

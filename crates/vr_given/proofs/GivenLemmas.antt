@@ -7,7 +7,8 @@ use Rattle.std.specs.List.{list_all, concat}
 use Rattle.std.proofs.lemmas.List.{append-nil}
 use Rattle.std.proofs.lemmas.List.Folds.{concat-append, list_all-append, list_any-append}
 use Rattle.vr_json.specs.Reading.{array, required}
-use Rattle.vr_json.proofs.Readings.{EachEnsures, after, any_value, array_keeps, count_ensures, gives, maybe_ensures, optional_ensures, refuse_if_ensures, required_ensures, weaker, whole_ensures}
+use Rattle.vr_json.proofs.Readings.{EachEnsures, after, any_value, array_keeps, count_ensures, gives, maybe_ensures, optional_ensures, refuse_if_ensures}
+use Rattle.vr_json.proofs.Readings.{required_ensures, weaker, whole_ensures}
 use Rattle.vr_model.specs.deciding.Testing.{and_both, test_of_eq}
 use Rattle.vr_model.specs.routes.Routes.{are_lists, holds, is_active, is_distinct}
 use Rattle.vr_model.specs.tables.Tables.{is_visit}
@@ -41,22 +42,27 @@ module _ (model : Model) where
       let absent : holds (before ++ so_far) node ≡ false =
       list_any-append (λ y. node == y) before so_far ∙ ap (λ b. b || holds so_far node) (sym (is_active-concat routes node)) ∙ fresh in
       subst AreVisitsOnce (append_assoc before so_far (node ∷ [])) (record {
-        each_is_visit = list_all-append (is_visit model) (before ++ so_far) (node ∷ []) ∙ and_both (list_all (is_visit model) (before ++ so_far)) _ h.each_is_visit (and_both (is_visit model node) true visit refl);
+        each_is_visit = list_all-append (is_visit model) (before ++ so_far) (node ∷ [])
+            ∙ and_both (list_all (is_visit model) (before ++ so_far)) _ h.each_is_visit (and_both (is_visit model node) true visit refl);
         no_node_twice = is_distinct_push (before ++ so_far) node h.no_node_twice absent;
       })
 
-  route_ensures : (routes : List (List ℕ)) → AreVisitsOnce (concat routes) → EachEnsures (λ nodes. AreVisitsOnce (concat routes ++ nodes)) (route_visits model.nodes model.vehicles routes)
+  route_ensures : (routes : List (List ℕ)) → AreVisitsOnce (concat routes)
+      → EachEnsures (λ nodes. AreVisitsOnce (concat routes ++ nodes)) (route_visits model.nodes model.vehicles routes)
   unfolding route_visit
   route_ensures routes h path d =
-      weaker (λ nodes both. both.1) (array_keeps (λ nodes. AreVisitsOnce (concat routes ++ nodes)) (route_visit model.nodes model.vehicles routes) (λ so_far so_far_ok path d.
+      weaker (λ nodes both. both.1)
+      (array_keeps (λ nodes. AreVisitsOnce (concat routes ++ nodes)) (route_visit model.nodes model.vehicles routes) (λ so_far so_far_ok path d.
       after (visit_ensures model path d) λ node node_ok.
       after (refuse_if_ensures (is_active routes node || holds so_far node) _ _) λ fresh apart.
       gives (visit_more routes so_far node so_far_ok node_ok apart))
       0 1000 (subst AreVisitsOnce (sym (append-nil (concat routes))) h) path d)
 
-  routes_ensure : (fleet : ℕ) → EachEnsures (λ routes. HasLength fleet fleet routes × AreVisitsOnce (concat routes)) (array fleet fleet (route_visits model.nodes model.vehicles))
+  routes_ensure : (fleet : ℕ)
+      → EachEnsures (λ routes. HasLength fleet fleet routes × AreVisitsOnce (concat routes)) (array fleet fleet (route_visits model.nodes model.vehicles))
   routes_ensure fleet = array_keeps (λ routes. AreVisitsOnce (concat routes)) (route_visits model.nodes model.vehicles)
-      (λ routes routes_ok path d. weaker (λ nodes ok. subst AreVisitsOnce (sym (concat-push routes nodes)) ok) (route_ensures routes routes_ok path d)) fleet fleet no_visits
+      (λ routes routes_ok path d. weaker (λ nodes ok. subst AreVisitsOnce (sym (concat-push routes nodes)) ok) (route_ensures routes routes_ok path d))
+      fleet fleet no_visits
 
   given_routes_ensure : EachEnsures (λ lists. IsTrue (are_lists model lists)) (given_routes model)
   given_routes_ensure path d = weaker (λ lists both.

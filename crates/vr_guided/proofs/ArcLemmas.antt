@@ -20,7 +20,8 @@ module _ (p : UsedArc → Bool) (v at last : ℕ) (list : List ℕ) (i : ℕ) wh
   abbrev arc : ℕ → UsedArc
   arc node = record { vehicle = v; origin = at; target = node }
 
-  onward : i < length list → list_any p (arcs_from v at (drop i list ++ last ∷ [])) ≡ (p (arc (get_or list i 0)) || list_any p (arcs_from v (get_or list i 0) (drop (i + 1) list ++ last ∷ [])))
+  onward : i < length list → list_any p (arcs_from v at (drop i list ++ last ∷ []))
+      ≡ (p (arc (get_or list i 0)) || list_any p (arcs_from v (get_or list i 0) (drop (i + 1) list ++ last ∷ [])))
   onward low = ap (λ nodes. list_any p (arcs_from v at (nodes ++ last ∷ []))) (drop_more list i 0 low)
 
   -- the next arc passes
@@ -28,7 +29,8 @@ module _ (p : UsedArc → Bool) (v at last : ℕ) (list : List ℕ) (i : ℕ) wh
   found_here low e = onward low ∙ ap (λ b. b || list_any p (arcs_from v (get_or list i 0) (drop (i + 1) list ++ last ∷ []))) e
 
   -- the next arc does not
-  pub not_here : i < length list → p (arc (get_or list i 0)) ≡ false → list_any p (arcs_from v at (drop i list ++ last ∷ [])) ≡ list_any p (arcs_from v (get_or list i 0) (drop (i + 1) list ++ last ∷ []))
+  pub not_here : i < length list → p (arc (get_or list i 0)) ≡ false
+      → list_any p (arcs_from v at (drop i list ++ last ∷ [])) ≡ list_any p (arcs_from v (get_or list i 0) (drop (i + 1) list ++ last ∷ []))
   not_here low e = onward low ∙ ap (λ b. b || list_any p (arcs_from v (get_or list i 0) (drop (i + 1) list ++ last ∷ []))) e
 
   -- the last arc decides
@@ -40,7 +42,8 @@ module _ (p : UsedArc → Bool) (v at last : ℕ) (list : List ℕ) (i : ℕ) wh
       same false = refl
 
 -- a route with visits goes from the start through them to the end
-pub arcs_of_used : (model : Model) (v : ℕ) (list : List ℕ) → (length list == 0) ≡ false → arcs_of model v list ≡ arcs_from v (vehicle_at model v).start (list ++ (vehicle_at model v).end ∷ [])
+pub arcs_of_used : (model : Model) (v : ℕ) (list : List ℕ) → (length list == 0) ≡ false
+    → arcs_of model v list ≡ arcs_from v (vehicle_at model v).start (list ++ (vehicle_at model v).end ∷ [])
 arcs_of_used model v [] h = absurd (no h)
   where
     no : true ≡ false → ⊥
@@ -57,7 +60,8 @@ module _ {A : Type 0} (p : A → Bool) (f : ℕ → List A) (v n : ℕ) where
   pub some_of_this : v < n → list_any p (f v) ≡ true → list_any p (each (range_with_len v (n - v)) f) ≡ true
   some_of_this low e = among low ∙ ap (λ b. b || list_any p (each (range_with_len (v + 1) (n - (v + 1))) f)) e
 
-  pub none_of_this : v < n → list_any p (f v) ≡ false → list_any p (each (range_with_len v (n - v)) f) ≡ list_any p (each (range_with_len (v + 1) (n - (v + 1))) f)
+  pub none_of_this : v < n → list_any p (f v) ≡ false
+      → list_any p (each (range_with_len v (n - v)) f) ≡ list_any p (each (range_with_len (v + 1) (n - (v + 1))) f)
   none_of_this low e = among low ∙ ap (λ b. b || list_any p (each (range_with_len (v + 1) (n - (v + 1))) f)) e
 
   pub none_left : n ≤ v → list_any p (each (range_with_len v (n - v)) f) ≡ false
@@ -67,11 +71,13 @@ module _ {A : Type 0} (p : A → Bool) (f : ℕ → List A) (v n : ℕ) where
 
 -- the next arc, and the others
 pub arcs_onward : (v at last : ℕ) (list : List ℕ) (i : ℕ) → i < length list
-    → arcs_from v at (drop i list ++ last ∷ []) ≡ record { vehicle = v; origin = at; target = get_or list i 0 } ∷ arcs_from v (get_or list i 0) (drop (i + 1) list ++ last ∷ [])
+    → arcs_from v at (drop i list ++ last ∷ [])
+    ≡ record { vehicle = v; origin = at; target = get_or list i 0 } ∷ arcs_from v (get_or list i 0) (drop (i + 1) list ++ last ∷ [])
 arcs_onward v at last list i low = ap (λ nodes. arcs_from v at (nodes ++ last ∷ [])) (drop_more list i 0 low)
 
 -- the last arc
-pub arcs_last : (v at last : ℕ) (list : List ℕ) (i : ℕ) → length list ≤ i → arcs_from v at (drop i list ++ last ∷ []) ≡ record { vehicle = v; origin = at; target = last } ∷ []
+pub arcs_last : (v at last : ℕ) (list : List ℕ) (i : ℕ) → length list ≤ i
+    → arcs_from v at (drop i list ++ last ∷ []) ≡ record { vehicle = v; origin = at; target = last } ∷ []
 arcs_last v at last list i high = ap (λ nodes. arcs_from v at (nodes ++ last ∷ [])) (drop_all i list high)
 
 -- what is there for this number, and for those behind it

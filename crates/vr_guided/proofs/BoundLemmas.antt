@@ -35,7 +35,8 @@ module _ (model : Model) (well : IsWellFormed model) (p : Penalties) (few : AtMo
   weight-up_to v origin target known low next =
       let costs = arc_cost_in_range model well v origin target known low next in
       let often = few.each origin target in
-      product-up_to 1000000000 1099511627776 (pos (p origin target)) _ (record { at_least = omega (arith, ints); at_most = omega (arith, ints, often) }) costs.at_most (inr costs.at_least)
+      product-up_to 1000000000 1099511627776 (pos (p origin target)) _
+      (record { at_least = omega (arith, ints); at_most = omega (arith, ints, often) }) costs.at_most (inr costs.at_least)
 
   pub path-up_to : (v node : ℕ) (nodes : List ℕ) → v < length model.vehicles → node < model.nodes → All (λ x. x < model.nodes) nodes
       → IsUpTo (length nodes * most) (total_by (arc_weight model p) (arcs_from v node nodes))
@@ -46,12 +47,14 @@ module _ (model : Model) (well : IsWellFormed model) (p : Penalties) (few : AtMo
       let later = path-up_to v next rest known next_low (λ k d l. each (suc k) d (omega (arith, l))) in
       record { at_least = omega (arith, ints, here.at_least, later.at_least); at_most = omega (arith, ints, here.at_most, later.at_most) }
 
-  pub route-up_to : (v : ℕ) (list : List ℕ) → v < length model.vehicles → All (λ x. x < model.nodes) list → IsUpTo ((length list + 1) * most) (route_weight model p v list)
+  pub route-up_to : (v : ℕ) (list : List ℕ) → v < length model.vehicles
+      → All (λ x. x < model.nodes) list → IsUpTo ((length list + 1) * most) (route_weight model p v list)
   route-up_to v [] known each = up_to-zero _
   route-up_to v (x ∷ xs) known each =
       let vehicle = well.each_vehicle v no_vehicle known in
       subst (λ n. IsUpTo (n * most) (route_weight model p v (x ∷ xs))) (length-append (x ∷ xs) ((vehicle_at model v).end ∷ []))
-      (path-up_to v (vehicle_at model v).start ((x ∷ xs) ++ (vehicle_at model v).end ∷ []) known vehicle.start_in_range (all_push (λ node. node < model.nodes) (x ∷ xs) (vehicle_at model v).end each vehicle.end_in_range))
+      (path-up_to v (vehicle_at model v).start ((x ∷ xs) ++ (vehicle_at model v).end ∷ []) known vehicle.start_in_range
+      (all_push (λ node. node < model.nodes) (x ∷ xs) (vehicle_at model v).end each vehicle.end_in_range))
 
   pub penalised-up_to : (lists : List (List ℕ)) → IsTrue (is_valid model lists) → IsUpTo (1100 * most) (penalised model p lists)
   penalised-up_to lists valid =
@@ -61,7 +64,9 @@ module _ (model : Model) (well : IsWellFormed model) (p : Penalties) (few : AtMo
       let nodes = well.number_of_nodes.1 in
       let fleet = well.number_of_vehicles.at_most in
       subst (IsUpTo (1100 * most)) (sym (sums model p lists))
-      (up_to-more _ (lists-up_to lists (λ v. route_weight model p v (route lists v)) 1 most (λ v low. route-up_to v (route lists v) (omega (arith, low, many)) (route-below model lists v are)))
+      (up_to-more _
+      (lists-up_to lists (λ v. route_weight model p v (route lists v)) 1 most
+      (λ v low. route-up_to v (route lists v) (omega (arith, low, many)) (route-below model lists v are)))
       (omega (arith, visits, nodes, many, fleet)))
 
 -- two heads of one list are the same
@@ -105,7 +110,8 @@ module _ (model : Model) (well : IsWellFormed model) (p : Penalties) (few : AtMo
       let behind = all_right (λ node. node < model.nodes) front (middle ++ rest) each in
       let from = last_below start front vehicle.start_in_range (all_left (λ node. node < model.nodes) front (middle ++ rest) each) in
       let to = next_below rest others next (all_right (λ node. node < model.nodes) middle rest behind) e in
-      (path-up_to model well p few v (last_of start front) (middle ++ next ∷ []) known from (all_push (λ node. node < model.nodes) middle next (all_left (λ node. node < model.nodes) middle rest behind) to)).at_least
+      (path-up_to model well p few v (last_of start front) (middle ++ next ∷ []) known from
+      (all_push (λ node. node < model.nodes) middle next (all_left (λ node. node < model.nodes) middle rest behind) to)).at_least
 
   -- nor does it without the arc that a vehicle without visits does not take
   pub whole_low : (front middle rest others : List ℕ) (next : ℕ) → rest ++ end ∷ [] ≡ next ∷ others → Below (front ++ (middle ++ rest))
@@ -113,12 +119,17 @@ module _ (model : Model) (well : IsWellFormed model) (p : Penalties) (few : AtMo
   whole_low [] [] [] others next e each =
       less_itself _ _ (arc_weight model p (record { vehicle = v; origin = start; target = end }))
       (ap (λ x. arc_weight model p (record { vehicle = v; origin = start; target = x }) +ℤ pos 0) (sym (same_head end next [] others e))) refl
-  whole_low (x ∷ xs) middle rest others next e each = less_nothing _ _ (stretch_low (x ∷ xs) middle rest others next e each) (used model p v (length ((x ∷ xs) ++ (middle ++ rest))) (omega arith))
-  whole_low [] (x ∷ xs) rest others next e each = less_nothing _ _ (stretch_low [] (x ∷ xs) rest others next e each) (used model p v (length ((x ∷ xs) ++ rest)) (omega arith))
-  whole_low [] [] (x ∷ xs) others next e each = less_nothing _ _ (stretch_low [] [] (x ∷ xs) others next e each) (used model p v (length (x ∷ xs)) (omega arith))
+  whole_low (x ∷ xs) middle rest others next e each =
+      less_nothing _ _ (stretch_low (x ∷ xs) middle rest others next e each) (used model p v (length ((x ∷ xs) ++ (middle ++ rest))) (omega arith))
+  whole_low [] (x ∷ xs) rest others next e each =
+      less_nothing _ _ (stretch_low [] (x ∷ xs) rest others next e each) (used model p v (length ((x ∷ xs) ++ rest)) (omega arith))
+  whole_low [] [] (x ∷ xs) others next e each =
+      less_nothing _ _ (stretch_low [] [] (x ∷ xs) others next e each) (used model p v (length (x ∷ xs)) (omega arith))
 
   pub unused_low : (len : ℕ) → pos 0 ≤ℤ unused_weight model p v len
-  unused_low zero = let vehicle = well.each_vehicle v no_vehicle known in (weight-up_to model well p few v start end known vehicle.start_in_range vehicle.end_in_range).at_least
+  unused_low zero =
+      let vehicle = well.each_vehicle v no_vehicle known in
+      (weight-up_to model well p few v start end known vehicle.start_in_range vehicle.end_in_range).at_least
   unused_low (suc n) = subst (λ z. pos 0 ≤ℤ z) (sym (used model p v (suc n) (omega arith))) (omega (arith, ints))
 
   -- the arcs of a list add no more than a path from the start through it to the end
@@ -126,8 +137,10 @@ module _ (model : Model) (well : IsWellFormed model) (p : Penalties) (few : AtMo
   whole_most list = let is = bare model p v list in let none = unused_low (length list) in omega (arith, ints, is, none)
 
   -- what stands in the place of a stretch takes no more than what its arcs add
-  pub middle_saved : (list middle : List ℕ) (front behind next : ℕ) (others : List ℕ) → front ≤ behind → drop behind list ++ end ∷ [] ≡ next ∷ others → Below (take front list ++ (middle ++ drop behind list))
-      → (route_weight model p v list -ℤ route_weight model p v (take front list ++ (middle ++ drop behind list))) ≤ℤ stretch_weight model p v (last_of start (take front list)) (slice_range list front behind) next
+  pub middle_saved : (list middle : List ℕ) (front behind next : ℕ) (others : List ℕ) → front ≤ behind
+      → drop behind list ++ end ∷ [] ≡ next ∷ others → Below (take front list ++ (middle ++ drop behind list))
+      → (route_weight model p v list -ℤ route_weight model p v (take front list ++ (middle ++ drop behind list)))
+      ≤ℤ stretch_weight model p v (last_of start (take front list)) (slice_range list front behind) next
   middle_saved list middle front behind next others order e each =
       let value = middle_value model p v list middle front behind next others order e in
       let low = whole_low (take front list) middle (drop behind list) others next e each in
@@ -135,12 +148,14 @@ module _ (model : Model) (well : IsWellFormed model) (p : Penalties) (few : AtMo
       omega (arith, ints, value, low, none)
 
   -- so do other pieces
-  pub part_saved : (lists : List (List ℕ)) (pieces middle : List Piece) (front behind next : ℕ) (others : List ℕ) → IsSplice lists v pieces front behind middle → drop behind (route lists v) ++ end ∷ [] ≡ next ∷ others
+  pub part_saved : (lists : List (List ℕ)) (pieces middle : List Piece) (front behind next : ℕ) (others : List ℕ)
+      → IsSplice lists v pieces front behind middle → drop behind (route lists v) ++ end ∷ [] ≡ next ∷ others
       → Below (joined lists pieces)
       → (route_weight model p v (route lists v) -ℤ route_weight model p v (joined lists pieces))
       ≤ℤ stretch_weight model p v (last_of start (take front (route lists v))) (slice_range (route lists v) front behind) next
   part_saved lists pieces middle front behind next others ends e each =
-      subst (λ xs. (route_weight model p v (route lists v) -ℤ route_weight model p v xs) ≤ℤ stretch_weight model p v (last_of start (take front (route lists v))) (slice_range (route lists v) front behind) next)
+      subst (λ xs. (route_weight model p v (route lists v) -ℤ route_weight model p v xs)
+      ≤ℤ stretch_weight model p v (last_of start (take front (route lists v))) (slice_range (route lists v) front behind) next)
       (sym ends.joins) (middle_saved (route lists v) (joined lists middle) front behind next others ends.order e (subst Below ends.joins each))
 
 -- a sum of the two parts

@@ -1,9 +1,11 @@
 -- A walk goes through a chain of a list at one go, forward or back.
-use Rattle.std.proofs.Common.{◌≡◌, ◌∙◌, ℕ, suc, ◌+◌, ◌-◌, ◌*◌, ◌^◌, ◌<◌, ◌≤◌, List, [], ◌∷◌, ◌++◌, length, take, drop, reverse, get_or, refl, sym, ap, ap₂, subst, to_z, of_z, arith}
+use Rattle.std.proofs.Common.{◌≡◌, ◌∙◌, ℕ, suc, ◌+◌, ◌-◌, ◌*◌, ◌^◌, ◌<◌, ◌≤◌, List, [], ◌∷◌, ◌++◌, length, take, drop, reverse, get_or, refl, sym, ap, ap₂}
+use Rattle.std.proofs.Common.{subst, to_z, of_z, arith}
 use Rattle.std.specs.Int.{w128}
 use Rattle.std.specs.Prelude.{ℤ, pos, ◌+ℤ◌, ◌*ℤ◌, ◌≤ℤ◌, All, slice_range}
 use Rattle.std.proofs.lemmas.Int.{ints}
-use Rattle.std.proofs.lemmas.List.{drop-append-le, drop_more, get_or-drop, length-append, length-drop, length-take-le, reverse-append, reverse-reverse, take-append-le}
+use Rattle.std.proofs.lemmas.List.{drop-append-le, drop_more, get_or-drop, length-append, length-drop, length-take-le, reverse-append, reverse-reverse}
+use Rattle.std.proofs.lemmas.List.{take-append-le}
 use Rattle.std.proofs.lemmas.List.Elements.{All-head, All-tail}
 use Rattle.vr_model.specs.tables.Tables.{entry, vehicle_at}
 use Rattle.vr_model.specs.tables.WellFormed.{IsIn, IsWellFormed}
@@ -80,9 +82,12 @@ turned model p v x (y ∷ ys) =
         last = sym (last_behind end x others);
         sum =
             let split = along_split (arc_weight model p) v end others (x ∷ []) in
-            let here : along (arc_weight model p) v (last_of end others) (x ∷ []) ≡ arc_weight model p (record { vehicle = v; origin = y; target = x }) +ℤ pos 0 = ap (λ z. along (arc_weight model p) v z (x ∷ [])) (sym h.last) in
+            let here : along (arc_weight model p) v (last_of end others) (x ∷ [])
+            ≡ arc_weight model p (record { vehicle = v; origin = y; target = x }) +ℤ pos 0 = ap (λ z. along (arc_weight model p) v z (x ∷ []))
+            (sym h.last) in
             let before = h.sum in
-            turned_sum (along (weight_back model p) v y ys) (arc_weight model p (record { vehicle = v; origin = y; target = x })) (along (arc_weight model p) v end others) (along (arc_weight model p) v (last_of end others) (x ∷ [])) _ before here split;
+            turned_sum (along (weight_back model p) v y ys) (arc_weight model p (record { vehicle = v; origin = y; target = x }))
+            (along (arc_weight model p) v end others) (along (arc_weight model p) v (last_of end others) (x ∷ [])) _ before here split;
       },
     )
   where
@@ -113,22 +118,27 @@ module _ (list : List ℕ) (from to : ℕ) (order : from < to) (high : to ≤ le
       let count : to - from - 1 + 1 ≡ to - from = omega (arith, order) in
       let place : from + (to - from - 1) ≡ to - 1 = omega (arith, order) in
       let taken = last_taken d (drop from list) (to - from - 1) (omega (arith, rest, order, high)) in
-      sym (ap (last_of d) (sym chain-first) ∙ (ap (λ n. last_of d (take n (drop from list))) (sym count) ∙ (taken ∙ (get_or-drop from list (to - from - 1) 0 ∙ ap (λ k. get_or list k 0) place))))
+      sym (ap (last_of d) (sym chain-first)
+      ∙ (ap (λ n. last_of d (take n (drop from list))) (sym count) ∙ (taken ∙ (get_or-drop from list (to - from - 1) 0 ∙ ap (λ k. get_or list k 0) place))))
 
   -- the same places of the list with the end behind it
   pub chain-start : (start end : ℕ) → last_of start (take (from + 1) (list ++ end ∷ [])) ≡ get_or list from 0
-  chain-start start end = ap (last_of start) (take-append-le (from + 1) list (end ∷ []) (omega (arith, order, high))) ∙ last_taken start list from (omega (arith, order, high))
+  chain-start start end = ap (last_of start) (take-append-le (from + 1) list (end ∷ []) (omega (arith, order, high)))
+      ∙ last_taken start list from (omega (arith, order, high))
 
   pub chain-line_nodes : (end : ℕ) → slice_range (list ++ end ∷ []) (from + 1) to ≡ slice_range list (from + 1) to
   chain-line_nodes end =
       let rest = length-drop (from + 1) list in
-      ap (take (to - (from + 1))) (drop-append-le (from + 1) list (end ∷ []) (omega (arith, order, high))) ∙ take-append-le (to - (from + 1)) (drop (from + 1) list) (end ∷ []) (omega (arith, rest, order, high))
+      ap (take (to - (from + 1))) (drop-append-le (from + 1) list (end ∷ []) (omega (arith, order, high)))
+      ∙ take-append-le (to - (from + 1)) (drop (from + 1) list) (end ∷ []) (omega (arith, rest, order, high))
 
 -- what as many arcs add
-pub arcs-range : (model : Model) → IsWellFormed model → (p : Penalties) → AtMost 1000000000 p → (v : ℕ) → v < length model.vehicles → (x : ℕ) (nodes : List ℕ) (n : ℕ) (z : ℤ)
+pub arcs-range : (model : Model) → IsWellFormed model → (p : Penalties) → AtMost 1000000000 p
+    → (v : ℕ) → v < length model.vehicles → (x : ℕ) (nodes : List ℕ) (n : ℕ) (z : ℤ)
     → All (λ node. node < model.nodes) (x ∷ nodes) → n ≡ length nodes → z ≡ along (arc_weight model p) v x nodes → IsIn (pos 0) (pos (n * 2 ^ 70)) z
 arcs-range model well p few v known x nodes n z below many is =
-    let up = path-up_to model well p few v x nodes known (All-head (λ node. node < model.nodes) x nodes below) (All-tail (λ node. node < model.nodes) x nodes below) in
+    let up = path-up_to model well p few v x nodes known (All-head (λ node. node < model.nodes) x nodes below)
+    (All-tail (λ node. node < model.nodes) x nodes below) in
     subst (IsIn (pos 0) (pos (n * 2 ^ 70))) (sym is) (up_to-more _ up (more (length nodes) n many))
   where
     more : (m n : ℕ) → n ≡ m → m * most ≤ n * 2 ^ 70
@@ -146,7 +156,8 @@ pub record AreJump (model : Model) (p : Penalties) (w : ℕ) (nodes : List ℕ) 
   pub ends : last ≡ last_of first others
   pub sum : total ≡ along (arc_weight model p) w first others
 
-module _ (model : Model) (p : Penalties) (v w : ℕ) (same : (vehicle_at model v).costs ≡ (vehicle_at model w).costs) (list : List ℕ) (from to : ℕ) (order : from < to) (high : to ≤ length list) where
+module _ (model : Model) (p : Penalties) (v w : ℕ) (same : (vehicle_at model v).costs ≡ (vehicle_at model w).costs)
+    (list : List ℕ) (from to : ℕ) (order : from < to) (high : to ≤ length list) where
   abbrev start : ℕ
   start = (vehicle_at model v).start
 
@@ -159,17 +170,21 @@ module _ (model : Model) (p : Penalties) (v w : ℕ) (same : (vehicle_at model v
   abbrev low : ℕ
   low = get_or list from 0
 
-  pub kept-forward : (total : ℤ) → total ≡ along (arc_weight model p) v (last_of start (take (from + 1) (list ++ end ∷ []))) (slice_range (list ++ end ∷ []) (from + 1) to)
+  pub kept-forward : (total : ℤ)
+      → total ≡ along (arc_weight model p) v (last_of start (take (from + 1) (list ++ end ∷ []))) (slice_range (list ++ end ∷ []) (from + 1) to)
       → AreJump model p w (slice_range list from to) (get_or list from 0) (get_or list (to - 1) 0) (to - from - 1) total
   kept-forward total is = record {
     others = xs;
     is = chain-first list from to order high;
     many = sym (chain-many list from to order high);
     ends = chain-last list from to order high 0;
-    sum = is ∙ (ap₂ (λ x ys. along (arc_weight model p) v x ys) (chain-start list from to order high start end) (chain-line_nodes list from to order high end) ∙ along-same model p v w same low xs);
+    sum = is
+        ∙ (ap₂ (λ x ys. along (arc_weight model p) v x ys) (chain-start list from to order high start end) (chain-line_nodes list from to order high end)
+        ∙ along-same model p v w same low xs);
   }
 
-  pub kept-back : (total : ℤ) → total ≡ along (weight_back model p) v (last_of start (take (from + 1) (list ++ end ∷ []))) (slice_range (list ++ end ∷ []) (from + 1) to)
+  pub kept-back : (total : ℤ)
+      → total ≡ along (weight_back model p) v (last_of start (take (from + 1) (list ++ end ∷ []))) (slice_range (list ++ end ∷ []) (from + 1) to)
       → AreJump model p w (reverse (slice_range list from to)) (get_or list (to - 1) 0) (get_or list from 0) (to - from - 1) total
   kept-back total is =
       let turn = turned model p v low xs in
@@ -180,10 +195,13 @@ module _ (model : Model) (p : Penalties) (v w : ℕ) (same : (vehicle_at model v
         is = ap reverse (chain-first list from to order high) ∙ h.is;
         many = sym (chain-many list from to order high) ∙ h.many;
         ends = h.last;
-        sum = is ∙ (ap₂ (λ x ys. along (weight_back model p) v x ys) (chain-start list from to order high start end) (chain-line_nodes list from to order high end) ∙ (h.sum ∙ along-same model p v w same (last_of low xs) turn.0));
+        sum = is
+            ∙ (ap₂ (λ x ys. along (weight_back model p) v x ys) (chain-start list from to order high start end) (chain-line_nodes list from to order high end)
+            ∙ (h.sum ∙ along-same model p v w same (last_of low xs) turn.0));
       })
 
-module _ (model : Model) (well : IsWellFormed model) (p : Penalties) (few : AtMost 1000000000 p) (w : ℕ) (known : w < length model.vehicles) (nodes : List ℕ) (first last arcs : ℕ) (total : ℤ)
+module _ (model : Model) (well : IsWellFormed model) (p : Penalties) (few : AtMost 1000000000 p)
+    (w : ℕ) (known : w < length model.vehicles) (nodes : List ℕ) (first last arcs : ℕ) (total : ℤ)
     (jump : AreJump model p w nodes first last arcs total) (below : All (λ node. node < model.nodes) nodes) where
   there : All (λ node. node < model.nodes) (first ∷ jump.others)
   there = subst (λ ys. All (λ node. node < model.nodes) ys) jump.is below
@@ -192,7 +210,8 @@ module _ (model : Model) (well : IsWellFormed model) (p : Penalties) (few : AtMo
   jump-first = All-head (λ node. node < model.nodes) first jump.others there
 
   pub jump-last : last < model.nodes
-  jump-last = subst (λ x. x < model.nodes) (sym jump.ends) (last_below model well p few w known first jump.others jump-first (All-tail (λ node. node < model.nodes) first jump.others there))
+  jump-last = subst (λ x. x < model.nodes) (sym jump.ends)
+      (last_below model well p few w known first jump.others jump-first (All-tail (λ node. node < model.nodes) first jump.others there))
 
   pub jump-range : IsIn (pos 0) (pos (arcs * 2 ^ 70)) total
   jump-range = arcs-range model well p few w known first jump.others arcs total there jump.many jump.sum

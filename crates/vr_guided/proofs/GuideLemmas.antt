@@ -24,7 +24,8 @@ use Rattle.vr_guided.specs.Guides.{is_gain, makes_less, penalised_change}
 spread : (q a b : ℤ) → q *ℤ (a -ℤ b) ≡ (q *ℤ a) -ℤ (q *ℤ b)
 spread (pos zero) a b = omega (arith, ints, zero-*ℤ (a -ℤ b), zero-*ℤ a, zero-*ℤ b)
 spread (pos (suc n)) a b = omega (arith, ints, suc_ℤ-*ℤ (pos n) (a -ℤ b), suc_ℤ-*ℤ (pos n) a, suc_ℤ-*ℤ (pos n) b, spread (pos n) a b)
-spread (negsuc zero) a b = omega (arith, ints, pred_ℤ-*ℤ (pos zero) (a -ℤ b), pred_ℤ-*ℤ (pos zero) a, pred_ℤ-*ℤ (pos zero) b, zero-*ℤ (a -ℤ b), zero-*ℤ a, zero-*ℤ b)
+spread (negsuc zero) a b =
+    omega (arith, ints, pred_ℤ-*ℤ (pos zero) (a -ℤ b), pred_ℤ-*ℤ (pos zero) a, pred_ℤ-*ℤ (pos zero) b, zero-*ℤ (a -ℤ b), zero-*ℤ a, zero-*ℤ b)
 spread (negsuc (suc n)) a b = omega (arith, ints, pred_ℤ-*ℤ (negsuc n) (a -ℤ b), pred_ℤ-*ℤ (negsuc n) a, pred_ℤ-*ℤ (negsuc n) b, spread (negsuc n) a b)
 
 less : (x y : ℤ) → int_lt (x -ℤ y) (pos 0) ≡ int_lt x y
@@ -45,7 +46,8 @@ pub makes_less_where : (model : Model) (lambda : Lambda) (penalties : Penalties)
     → int_lt ((lambda.q *ℤ costs) +ℤ (lambda.p *ℤ change)) (pos 0) ≡ makes_less model lambda penalties lists mv costs
 unfolding augmented
 makes_less_where model lambda penalties lists mv costs change e h = ap₂ (λ x y. int_lt ((lambda.q *ℤ x) +ℤ (lambda.p *ℤ y)) (pos 0)) e h
-    ∙ weighed lambda.q lambda.p (cost model (apply model lists mv)) (cost model lists) (penalised model penalties (apply model lists mv)) (penalised model penalties lists)
+    ∙ weighed lambda.q lambda.p (cost model (apply model lists mv)) (cost model lists)
+    (penalised model penalties (apply model lists mv)) (penalised model penalties lists)
 
 -- q times a number from 0 on is from 0 on
 times_low : (q x : ℤ) → pos 1 ≤ℤ q → pos 0 ≤ℤ x → pos 0 ≤ℤ (q *ℤ x)
@@ -66,10 +68,12 @@ not_less_behind : (z x y : ℤ) → pos 0 ≤ℤ (x -ℤ y) → int_lt (z +ℤ y
 not_less_behind z x y more none = Prim.grind (arith, ints, more, none)
 
 -- what is no gain with the least difference is none with the difference itself
-still_none : (lambda : Lambda) (least difference change : ℤ) → pos 1 ≤ℤ lambda.q → is_gain lambda least change ≡ false → least ≤ℤ difference → is_gain lambda difference change ≡ false
+still_none : (lambda : Lambda) (least difference change : ℤ) → pos 1 ≤ℤ lambda.q
+    → is_gain lambda least change ≡ false → least ≤ℤ difference → is_gain lambda difference change ≡ false
 still_none lambda least difference change some none low =
     let more : pos 0 ≤ℤ (difference -ℤ least) = omega (arith, ints, low) in
-    let times : pos 0 ≤ℤ ((lambda.q *ℤ difference) -ℤ (lambda.q *ℤ least)) = subst (λ z. pos 0 ≤ℤ z) (spread lambda.q difference least) (times_low lambda.q (difference -ℤ least) some more) in
+    let times : pos 0 ≤ℤ ((lambda.q *ℤ difference) -ℤ (lambda.q *ℤ least)) = subst (λ z. pos 0 ≤ℤ z)
+    (spread lambda.q difference least) (times_low lambda.q (difference -ℤ least) some more) in
     not_less (lambda.q *ℤ difference) (lambda.q *ℤ least) (lambda.p *ℤ change) times none
 
 -- a move that is no gain with the least difference that it may make does not make the augmented cost less
@@ -81,14 +85,17 @@ passed_over model lambda penalties lists mv least some none low =
     ∙ still_none lambda least (cost_change model lists mv) (penalised_change model penalties lists mv) some none low
 
 -- what is no gain with the most that is saved of the penalised arc costs is none with what is saved
-pub none_saved : (lambda : Lambda) (difference change saved : ℤ) → pos 1 ≤ℤ lambda.p → is_gain lambda difference (pos 0 -ℤ saved) ≡ false → pos 0 ≤ℤ (change +ℤ saved) → is_gain lambda difference change ≡ false
+pub none_saved : (lambda : Lambda) (difference change saved : ℤ) → pos 1 ≤ℤ lambda.p
+    → is_gain lambda difference (pos 0 -ℤ saved) ≡ false → pos 0 ≤ℤ (change +ℤ saved) → is_gain lambda difference change ≡ false
 none_saved lambda difference change saved some none low =
     let more : pos 0 ≤ℤ (change -ℤ (pos 0 -ℤ saved)) = omega (arith, ints, low) in
-    let times : pos 0 ≤ℤ ((lambda.p *ℤ change) -ℤ (lambda.p *ℤ (pos 0 -ℤ saved))) = subst (λ z. pos 0 ≤ℤ z) (spread lambda.p change (pos 0 -ℤ saved)) (times_low lambda.p (change -ℤ (pos 0 -ℤ saved)) some more) in
+    let times : pos 0 ≤ℤ ((lambda.p *ℤ change) -ℤ (lambda.p *ℤ (pos 0 -ℤ saved))) = subst (λ z. pos 0 ≤ℤ z)
+    (spread lambda.p change (pos 0 -ℤ saved)) (times_low lambda.p (change -ℤ (pos 0 -ℤ saved)) some more) in
     not_less_behind (lambda.q *ℤ difference) (lambda.p *ℤ change) (lambda.p *ℤ (pos 0 -ℤ saved)) times none
 
 -- a difference from 0 on is no gain where nothing is saved
-pub none_at_zero : (lambda : Lambda) (difference saved : ℤ) → pos 1 ≤ℤ lambda.q → pos 0 ≤ℤ difference → saved ≡ pos 0 → is_gain lambda difference (pos 0 -ℤ saved) ≡ false
+pub none_at_zero : (lambda : Lambda) (difference saved : ℤ) → pos 1 ≤ℤ lambda.q
+    → pos 0 ≤ℤ difference → saved ≡ pos 0 → is_gain lambda difference (pos 0 -ℤ saved) ≡ false
 none_at_zero lambda difference saved some low nothing =
     let times = times_low lambda.q difference some low in
     ap (λ z. int_lt ((lambda.q *ℤ difference) +ℤ (lambda.p *ℤ (pos 0 -ℤ z))) (pos 0)) nothing
@@ -107,8 +114,10 @@ at_most n (pos m) h = omega (arith, ints, h)
 at_most n (negsuc m) h = omega (arith, ints, h)
 
 -- what its change makes of the penalised arc costs, told in 128 bits, is what the move makes of them
-pub change_read : (model : Model) (penalties : Penalties) (lists : List (List ℕ)) (mv : Move) {parts : List ListAfter} (told : ℤ) → IsChange model lists mv parts → unsigned_abs told ≤ 2 ^ 100
-    → told ≡ penalised model penalties (changed lists parts) -ℤ penalised model penalties lists → to_z w128 (of_z w128 told) ≡ penalised_change model penalties lists mv
+pub change_read : (model : Model) (penalties : Penalties) (lists : List (List ℕ)) (mv : Move) {parts : List ListAfter} (told : ℤ)
+    → IsChange model lists mv parts → unsigned_abs told ≤ 2 ^ 100
+    → told ≡ penalised model penalties (changed lists parts) -ℤ penalised model penalties lists
+    → to_z w128 (of_z w128 told) ≡ penalised_change model penalties lists mv
 change_read model penalties lists mv told change few is =
     let low = at_least (2 ^ 100) told few in
     let high = at_most (2 ^ 100) told few in
@@ -116,6 +125,7 @@ change_read model penalties lists mv told change few is =
     as_read ∙ (is ∙ ap (λ ls. penalised model penalties ls -ℤ penalised model penalties lists) change.lists_are)
 
 -- after a change that a move makes the lists are those of the model
-pub lists_after : (model : Model) → IsWellFormed model → (lists : List (List ℕ)) (mv : Move) {parts : List ListAfter} → IsTrue (is_valid model lists) → IsTrue (is_move model lists mv) → IsChange model lists mv parts → IsTrue (are_lists model (changed lists parts))
+pub lists_after : (model : Model) → IsWellFormed model → (lists : List (List ℕ)) (mv : Move) {parts : List ListAfter}
+    → IsTrue (is_valid model lists) → IsTrue (is_move model lists mv) → IsChange model lists mv parts → IsTrue (are_lists model (changed lists parts))
 lists_after model well lists mv valid one change =
     subst (λ ls. IsTrue (are_lists model ls)) (sym change.lists_are) (moves_keep_lists model well lists mv (are-lists model lists valid) one)

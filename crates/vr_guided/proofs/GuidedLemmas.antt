@@ -34,26 +34,31 @@ few_raised model p lists used n one few = record { each = λ origin target. go (
     go false origin target low = omega (arith, low)
 
 module _ (model : Model) (limit : Limit) (lambda : Lambda) where
-  pub at_start : (lists : List (List ℕ)) → guided model lists limit lambda ≡ with_event (event_at model (begun lists) kind.First) (guided_from_here model limit lambda no_penalties lists lists 0 1)
+  pub at_start : (lists : List (List ℕ)) → guided model lists limit lambda
+      ≡ with_event (event_at model (begun lists) kind.First) (guided_from_here model limit lambda no_penalties lists lists 0 1)
   unfolding guided
   at_start lists = let all : limit.tries ≡ limit.tries - 0 = omega arith in
       ap (λ tries. with_event (event_at model (begun lists) kind.First) (guided_from model limit lambda (suc tries) no_penalties (begun lists))) all
 
   module _ (penalties : Penalties) (lists best : List (List ℕ)) (used found : ℕ) where
     -- enough solutions were found
-    pub enough : (found == limit.solutions) ≡ true → guided_from_here model limit lambda penalties lists best used found ≡ ended (standing lists best used found) Solutions
+    pub enough : (found == limit.solutions) ≡ true
+        → guided_from_here model limit lambda penalties lists best used found ≡ ended (standing lists best used found) Solutions
     unfolding guided_from
     enough e = rw (e, guided_from) refl
 
     -- else the moves are scanned
     scanned : (found == limit.solutions) ≡ false → (s : Scan) → scan_of model (makes_less model lambda penalties) limit lists used ≡ s
-        → guided_from_here model limit lambda penalties lists best used found ≡ guided_on model limit (guided_from model limit lambda (limit.tries - used)) penalties (standing lists best used found) s
+        → guided_from_here model limit lambda penalties lists best used found
+        ≡ guided_on model limit (guided_from model limit lambda (limit.tries - used)) penalties (standing lists best used found) s
     unfolding guided_from
-    scanned e s h = rw (e, guided_from) (ap (guided_on model limit (guided_from model limit lambda (limit.tries - used)) penalties (standing lists best used found)) h)
+    scanned e s h =
+        rw (e, guided_from) (ap (guided_on model limit (guided_from model limit lambda (limit.tries - used)) penalties (standing lists best used found)) h)
 
     -- fewer scans do as well after some tries
     fewer : (more : Penalties) (n : ℕ) → 1 ≤ n → n ≤ limit.tries - used → (after kept : List (List ℕ)) (now : ℕ)
-        → guided_from model limit lambda (limit.tries - used) more (standing after kept (used + n) now) ≡ guided_from_here model limit lambda more after kept (used + n) now
+        → guided_from model limit lambda (limit.tries - used) more (standing after kept (used + n) now)
+        ≡ guided_from_here model limit lambda more after kept (used + n) now
     fewer more n one low after kept now = let scans = suc (limit.tries - (used + n)) in let rest = (limit.tries - used) - suc (limit.tries - (used + n)) in
         let sum : limit.tries - used ≡ scans + rest = omega (arith, one, low) in
         ap (λ k. guided_from model limit lambda k more (standing after kept (used + n) now)) sum
@@ -61,20 +66,24 @@ module _ (model : Model) (limit : Limit) (lambda : Lambda) where
 
     -- what is left of the search after a scan
     abbrev pub left_after : Scan → Outcome
-    left_after (accepted_as n mv) = guided_from_here model limit lambda penalties (apply model lists mv) (cheaper model best (apply model lists mv)) (used + n) (found + 1)
+    left_after (accepted_as n mv) =
+        guided_from_here model limit lambda penalties (apply model lists mv) (cheaper model best (apply model lists mv)) (used + n) (found + 1)
     left_after (complete n) = elim (is_at_end model (standing lists best used found) n) [
       | true ↦ ended (tried (standing lists best used found) n) Optimum
-      | false ↦ with_event (event_at model (tried (standing lists best used found) n) kind.Round) (guided_from_here model limit lambda (raised model penalties lists) lists best (used + n) found)
+      | false ↦ with_event (event_at model (tried (standing lists best used found) n) kind.Round)
+          (guided_from_here model limit lambda (raised model penalties lists) lists best (used + n) found)
     ]
     left_after cut = ended (tried (standing lists best used found) (limit.tries - used)) Tries
 
     -- no penalty can help
-    pub at_end : (n : ℕ) → is_at_end model (standing lists best used found) n ≡ true → left_after (complete n) ≡ ended (tried (standing lists best used found) n) Optimum
+    pub at_end : (n : ℕ) → is_at_end model (standing lists best used found) n ≡ true
+        → left_after (complete n) ≡ ended (tried (standing lists best used found) n) Optimum
     at_end n e = rw (e, left_after) refl
 
     -- the penalties rise
     pub at_round : (n : ℕ) → is_at_end model (standing lists best used found) n ≡ false
-        → left_after (complete n) ≡ behind (event_at model (tried (standing lists best used found) n) kind.Round ∷ []) (guided_from_here model limit lambda (raised model penalties lists) lists best (used + n) found)
+        → left_after (complete n) ≡ behind (event_at model (tried (standing lists best used found) n) kind.Round ∷ [])
+        (guided_from_here model limit lambda (raised model penalties lists) lists best (used + n) found)
     at_round n e = rw (e, left_after) refl
 
     -- it takes a move to get to a round
@@ -87,27 +96,35 @@ module _ (model : Model) (limit : Limit) (lambda : Lambda) where
 
     -- the search is the events of a scan, and what is left after it
     pub on_scan : (found == limit.solutions) ≡ false → guided_from_here model limit lambda penalties lists best used found
-        ≡ behind (events_after model lists used (scan_of model (makes_less model lambda penalties) limit lists used)) (left_after (scan_of model (makes_less model lambda penalties) limit lists used))
+        ≡ behind (events_after model lists used (scan_of model (makes_less model lambda penalties) limit lists used))
+        (left_after (scan_of model (makes_less model lambda penalties) limit lists used))
     on_scan e = go (scan_of model (makes_less model lambda penalties) limit lists used) refl
       where
         one_more : (k : ℕ) → suc k ≡ k + 1
         one_more k = omega arith
 
-        goes_on : (n : ℕ) (mv : Move) → 1 ≤ n → n ≤ limit.tries - used → guided_from model limit lambda (limit.tries - used) penalties (accepted model (standing lists best used found) n mv) ≡ left_after (accepted_as n mv)
-        goes_on n mv one low = ap (λ k. guided_from model limit lambda (limit.tries - used) penalties (standing (apply model lists mv) (cheaper model best (apply model lists mv)) (used + n) k)) (one_more found)
+        goes_on : (n : ℕ) (mv : Move) → 1 ≤ n → n ≤ limit.tries - used
+            → guided_from model limit lambda (limit.tries - used) penalties (accepted model (standing lists best used found) n mv)
+            ≡ left_after (accepted_as n mv)
+        goes_on n mv one low = ap (λ k. guided_from model limit lambda (limit.tries - used) penalties
+            (standing (apply model lists mv) (cheaper model best (apply model lists mv)) (used + n) k)) (one_more found)
             ∙ fewer penalties n one low (apply model lists mv) (cheaper model best (apply model lists mv)) (found + 1)
 
         stuck : (n : ℕ) → n ≤ limit.tries - used → (b : Bool) → is_at_end model (standing lists best used found) n ≡ b
-            → guided_on model limit (guided_from model limit lambda (limit.tries - used)) penalties (standing lists best used found) (complete n) ≡ left_after (complete n)
+            → guided_on model limit (guided_from model limit lambda (limit.tries - used)) penalties (standing lists best used found) (complete n)
+            ≡ left_after (complete n)
         stuck n low true h = rw (h, guided_on) refl ∙ sym (at_end n h)
         stuck n low false h = rw (h, guided_on) refl
-            ∙ (ap (with_event (event_at model (tried (standing lists best used found) n) kind.Round)) (fewer (raised model penalties lists) n (some_moves n h) low lists best found)
+            ∙ (ap (with_event (event_at model (tried (standing lists best used found) n) kind.Round))
+            (fewer (raised model penalties lists) n (some_moves n h) low lists best found)
             ∙ sym (at_round n h))
 
-        go : (s : Scan) → scan_of model (makes_less model lambda penalties) limit lists used ≡ s → guided_from_here model limit lambda penalties lists best used found ≡ behind (events_after model lists used s) (left_after s)
+        go : (s : Scan) → scan_of model (makes_less model lambda penalties) limit lists used ≡ s
+            → guided_from_here model limit lambda penalties lists best used found ≡ behind (events_after model lists used s) (left_after s)
         go (accepted_as n mv) h = let at = accepted_where model (makes_less model lambda penalties) lists (limit.tries - used) n mv h in
             scanned e (accepted_as n mv) h ∙ ap (with_event (move_event model lists mv (used + n))) (goes_on n mv at.from_one at.within)
-        go (complete n) h = scanned e (complete n) h ∙ stuck n (completed_where model (makes_less model lambda penalties) lists (limit.tries - used) n h) (is_at_end model (standing lists best used found) n) refl
+        go (complete n) h = scanned e (complete n) h ∙ stuck n (completed_where model (makes_less model lambda penalties) lists (limit.tries - used) n h)
+            (is_at_end model (standing lists best used found) n) refl
         go cut h = scanned e cut h
 
 -- a scan goes on with the search: its events are told, whole or in part

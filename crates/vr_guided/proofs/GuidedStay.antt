@@ -22,10 +22,12 @@ use Rattle.vr_model.specs.tables.WellFormed.{IsWellFormed}
 four : (f g : List (List ℕ) → ℤ) (a b c d : List (List ℕ)) → ((l : List (List ℕ)) → f l ≡ g l) → g a -ℤ g b ≡ g c -ℤ g d → f a -ℤ f b ≡ f c -ℤ f d
 four f g a b c d same e = let p = same a in let q = same b in let r = same c in let s = same d in omega (arith, ints, p, q, r, s, e)
 
-module _ (model : Model) (lambda : Lambda) (penalties : Penalties) (none : HasNoGlobalSpans model) (lists other : List (List ℕ)) (mv : Move) (both : Alike model mv lists other) where
+module _ (model : Model) (lambda : Lambda) (penalties : Penalties) (none : HasNoGlobalSpans model)
+    (lists other : List (List ℕ)) (mv : Move) (both : Alike model mv lists other) where
   -- the penalised arc costs grow by the same
   penalised_local : penalised_change model penalties lists mv ≡ penalised_change model penalties other mv
-  penalised_local = four (penalised model penalties) (over (route_weight model penalties)) (apply model lists mv) lists (apply model other mv) other (sums model penalties)
+  penalised_local =
+      four (penalised model penalties) (over (route_weight model penalties)) (apply model lists mv) lists (apply model other mv) other (sums model penalties)
       (sum_local model mv lists other (is_local model lists other mv both) (route_weight model penalties))
 
   less_local : makes_less model lambda penalties lists mv (cost_change model lists mv) ≡ makes_less model lambda penalties other mv (cost_change model other mv)
@@ -37,6 +39,7 @@ module _ (model : Model) (lambda : Lambda) (penalties : Penalties) (none : HasNo
 
 -- whether a move makes the augmented cost less depends on the lists of its vehicles alone, and on which visits are
 -- active where it changes that, as long as the penalties stay, where nothing is paid for global spans
-pub guided_stays : (model : Model) → IsWellFormed model → HasNoGlobalSpans model → (lambda : Lambda) (penalties : Penalties) → StaysRefused model (makes_less model lambda penalties)
+pub guided_stays : (model : Model) → IsWellFormed model → HasNoGlobalSpans model
+    → (lambda : Lambda) (penalties : Penalties) → StaysRefused model (makes_less model lambda penalties)
 guided_stays model well none lambda penalties lists other mv both =
     λ i. validity_is_local model well lists other mv both i && less_local model lambda penalties none lists other mv both i

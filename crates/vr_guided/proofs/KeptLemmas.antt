@@ -1,5 +1,6 @@
 -- Chains and stretches of the list of a vehicle, by its sums.
-use Rattle.std.proofs.Common.{◌≡◌, ℕ, suc, ◌+◌, ◌-◌, ◌*◌, ◌^◌, ◌<◌, ◌≤◌, true, false, List, [], ◌∷◌, ◌++◌, length, take, drop, reverse, get_or, refl, sym, subst, to_z, of_z, arith}
+use Rattle.std.proofs.Common.{◌≡◌, ℕ, suc, ◌+◌, ◌-◌, ◌*◌, ◌^◌, ◌<◌, ◌≤◌, true, false, List, [], ◌∷◌, ◌++◌, length, take, drop, reverse, get_or, refl, sym}
+use Rattle.std.proofs.Common.{subst, to_z, of_z, arith}
 use Rattle.std.specs.Int.{w128}
 use Rattle.std.specs.Prelude.{ℤ, pos, All, IsTrue, slice_index_or, slice_range}
 use Rattle.std.proofs.lemmas.Int.{ints}
@@ -30,7 +31,8 @@ pub record IsKept (model : Model) (p : Penalties) (w : ℕ) (nodes : List ℕ) (
   pub range : IsIn (pos 0) (pos (arcs * 2 ^ 70)) total
   pub read : to_z w128 (of_z w128 total) ≡ total
 
-kept : (model : Model) → IsWellFormed model → (p : Penalties) → AtMost 1000000000 p → (w : ℕ) → w < length model.vehicles → (nodes : List ℕ) (first last arcs : ℕ) (total : ℤ)
+kept : (model : Model) → IsWellFormed model → (p : Penalties) → AtMost 1000000000 p
+    → (w : ℕ) → w < length model.vehicles → (nodes : List ℕ) (first last arcs : ℕ) (total : ℤ)
     → AreJump model p w nodes first last arcs total → All (λ node. node < model.nodes) nodes → arcs ≤ 1000 → IsKept model p w nodes first last arcs total
 kept model well p few w known nodes first last arcs total jump below short = record {
   jump = jump;
@@ -55,7 +57,8 @@ abbrev pub IsBetween : (UsedArc → ℤ) → ℕ → ℕ → List ℕ → ℕ �
 IsBetween f v start nodes from to sums total =
     AreArcSums f v start nodes sums → total ≡ total_by f (arcs_from v (last_of start (take from nodes)) (slice_range nodes from to))
 
-module _ {model : Model} {p : Penalties} {lists : List (List ℕ)} {route_sums : List RouteSums} {both : RouteSums} (are : AreAllRouteSums model p lists route_sums) (v : ℕ) (owner : v < length model.vehicles) (of : both ≡ slice_index_or route_sums v no_route_sums) where
+module _ {model : Model} {p : Penalties} {lists : List (List ℕ)} {route_sums : List RouteSums} {both : RouteSums}
+    (are : AreAllRouteSums model p lists route_sums) (v : ℕ) (owner : v < length model.vehicles) (of : both ≡ slice_index_or route_sums v no_route_sums) where
   abbrev start : ℕ
   start = (vehicle_at model v).start
 
@@ -76,7 +79,8 @@ module _ {model : Model} {p : Penalties} {lists : List (List ℕ)} {route_sums :
   back_long = long both.back here.back.many
 
   -- a stretch of the list
-  pub kept_stretch : IsWellFormed model → AtMost 1000000000 p → IsTrue (is_valid model lists) → (front behind : ℕ) → front ≤ behind → behind ≤ length (route lists v)
+  pub kept_stretch : IsWellFormed model → AtMost 1000000000 p → IsTrue (is_valid model lists)
+      → (front behind : ℕ) → front ≤ behind → behind ≤ length (route lists v)
       → {total : ℤ} → IsBetween (weight_by model p false) v start (line_nodes model v (route lists v)) front (behind + 1) both.forward total
       → IsStretch model p v (route lists v) front behind total
   kept_stretch well few valid front behind order high {total} sum = record {
@@ -95,7 +99,8 @@ module _ {model : Model} {p : Penalties} {lists : List (List ℕ)} {route_sums :
       range = stretch-range model well p few v owner (route lists v) below short front behind order high total (sum here.forward)
 
   module _ (well : IsWellFormed model) (few : AtMost 1000000000 p) (valid : IsTrue (is_valid model lists)) (w : ℕ) (known : w < length model.vehicles)
-      (same : (vehicle_at model v).costs ≡ (vehicle_at model w).costs) {list : List ℕ} (is : list ≡ route lists v) (from to : ℕ) (order : from < to) (place : to ≤ length (route lists v)) where
+      (same : (vehicle_at model v).costs ≡ (vehicle_at model w).costs) {list : List ℕ}
+      (is : list ≡ route lists v) (from to : ℕ) (order : from < to) (place : to ≤ length (route lists v)) where
     short : length list ≤ 1000
     short = list_short model lists valid well v is
 
@@ -103,7 +108,8 @@ module _ {model : Model} {p : Penalties} {lists : List (List ℕ)} {route_sums :
     high = subst (λ l. to ≤ length l) (sym is) place
 
     chain : All (λ node. node < model.nodes) (slice_range list from to)
-    chain = All-take (λ node. node < model.nodes) (to - from) (drop from list) (All-drop (λ node. node < model.nodes) from list (list_below model lists valid v is))
+    chain =
+        All-take (λ node. node < model.nodes) (to - from) (drop from list) (All-drop (λ node. node < model.nodes) from list (list_below model lists valid v is))
 
     -- a chain of the list that is taken forward
     pub kept_forward : {total : ℤ} → IsBetween (weight_by model p false) v start (list ++ end ∷ []) (from + 1) to both.forward total
@@ -119,4 +125,5 @@ module _ {model : Model} {p : Penalties} {lists : List (List ℕ)} {route_sums :
     kept_back {total} sum =
         let sums = subst (λ l. AreArcSums (weight_by model p true) v start (l ++ end ∷ []) both.back) (sym is) here.back in
         kept model well p few w known (reverse (slice_range list from to)) (get_or list (to - 1) 0) (get_or list from 0) (to - from - 1) total
-        (kept-back model p v w same list from to order high total (sum sums)) (all-reversed (λ node. node < model.nodes) (slice_range list from to) chain) (omega (arith, high, short))
+        (kept-back model p v w same list from to order high total (sum sums)) (all-reversed (λ node. node < model.nodes) (slice_range list from to) chain)
+        (omega (arith, high, short))

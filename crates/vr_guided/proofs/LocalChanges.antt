@@ -30,7 +30,8 @@ module _ (f : UsedArc → ℤ) (v : ℕ) where
 
   -- what stands before and behind a changed stretch does not count
   pub local_change : (x next : ℕ) (front old new behind : List ℕ)
-      → along x (front ++ (new ++ next ∷ behind)) -ℤ along x (front ++ (old ++ next ∷ behind)) ≡ along (last_of x front) (new ++ next ∷ []) -ℤ along (last_of x front) (old ++ next ∷ [])
+      → along x (front ++ (new ++ next ∷ behind)) -ℤ along x (front ++ (old ++ next ∷ behind))
+      ≡ along (last_of x front) (new ++ next ∷ []) -ℤ along (last_of x front) (old ++ next ∷ [])
   local_change x next front old new behind = omega (
     arith,
     ints,

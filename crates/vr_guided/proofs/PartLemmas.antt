@@ -1,5 +1,6 @@
 -- What other pieces make of the penalised arc costs of a vehicle, and what all parts of a change make of them.
-use Rattle.std.proofs.Common.{◌≡◌, ◌≢◌, ◌∙◌, ℕ, zero, suc, ◌+◌, ◌*◌, ◌^◌, ◌-◌, to_z, of_z, ◌<◌, ◌≤◌, true, false, cond, nat_lt, List, [], ◌∷◌, ◌++◌, length, length-set, take, drop, refl, sym, ap, ap₂, subst, inl, inr, arith, append_assoc}
+use Rattle.std.proofs.Common.{◌≡◌, ◌≢◌, ◌∙◌, ℕ, zero, suc, ◌+◌, ◌*◌, ◌^◌, ◌-◌, to_z, of_z, ◌<◌, ◌≤◌, true, false, cond, nat_lt, List, [], ◌∷◌, ◌++◌, length}
+use Rattle.std.proofs.Common.{length-set, take, drop, refl, sym, ap, ap₂, subst, inl, inr, arith, append_assoc}
 use Rattle.std.specs.Prelude.{ℤ, pos, negsuc, unsigned_abs, ◌+ℤ◌, ◌-ℤ◌, ◌≤ℤ◌, ◌==◌, ◌⊎◌, All, IsTrue, slice_range, slice_set, slice_index_or}
 use Rattle.std.specs.Int.{w128}
 use Rattle.std.proofs.lemmas.Int.{ints}
@@ -29,7 +30,8 @@ use Rattle.vr_guided.proofs.LocalChanges.{along, local_change, total_by_each}
 three : (xs : List ℕ) (a b : ℕ) → a ≤ b → xs ≡ take a xs ++ (slice_range xs a b ++ drop b xs)
 three xs a b order =
     let sum : a + (b - a) ≡ b = omega (arith, order) in
-    sym (take-append-drop a xs) ∙ ap (λ ys. take a xs ++ ys) (sym (take-append-drop (b - a) (drop a xs)) ∙ ap (λ ys. take (b - a) (drop a xs) ++ ys) (drop-drop (b - a) a xs ∙ ap (λ k. drop k xs) sum))
+    sym (take-append-drop a xs) ∙ ap (λ ys. take a xs ++ ys)
+    (sym (take-append-drop (b - a) (drop a xs)) ∙ ap (λ ys. take (b - a) (drop a xs) ++ ys) (drop-drop (b - a) a xs ∙ ap (λ k. drop k xs) sum))
 
 less_none : (a u : ℤ) → u ≡ pos 0 → a ≡ a -ℤ u
 less_none a u e = omega (arith, ints, e)
@@ -53,37 +55,47 @@ module _ (model : Model) (p : Penalties) (v : ℕ) where
   bare [] = omega (arith, ints)
   bare (x ∷ xs) = less_none (stretch_weight model p v start (x ∷ xs) end) (unused_weight model p v (length (x ∷ xs))) (used (length (x ∷ xs)) (omega arith))
 
-  joins_end : (front middle rest others : List ℕ) (next : ℕ) → rest ++ end ∷ [] ≡ next ∷ others → (front ++ (middle ++ rest)) ++ end ∷ [] ≡ front ++ (middle ++ next ∷ others)
-  joins_end front middle rest others next e = append_assoc front (middle ++ rest) (end ∷ []) ∙ ap (λ xs. front ++ xs) (append_assoc middle rest (end ∷ []) ∙ ap (λ xs. middle ++ xs) e)
+  joins_end : (front middle rest others : List ℕ) (next : ℕ) → rest ++ end ∷ [] ≡ next ∷ others
+      → (front ++ (middle ++ rest)) ++ end ∷ [] ≡ front ++ (middle ++ next ∷ others)
+  joins_end front middle rest others next e = append_assoc front (middle ++ rest) (end ∷ [])
+      ∙ ap (λ xs. front ++ xs) (append_assoc middle rest (end ∷ []) ∙ ap (λ xs. middle ++ xs) e)
 
   -- only the changed stretch counts
   pub middle_value : (list middle : List ℕ) (front behind next : ℕ) (others : List ℕ) → front ≤ behind → drop behind list ++ end ∷ [] ≡ next ∷ others
       → route_weight model p v (take front list ++ (middle ++ drop behind list)) -ℤ route_weight model p v list
-      ≡ (stretch_weight model p v (last_of start (take front list)) middle next -ℤ unused_weight model p v (length (take front list ++ (middle ++ drop behind list))))
+      ≡ (stretch_weight model p v (last_of start (take front list)) middle next
+      -ℤ unused_weight model p v (length (take front list ++ (middle ++ drop behind list))))
       -ℤ (stretch_weight model p v (last_of start (take front list)) (slice_range list front behind) next -ℤ unused_weight model p v (length list))
   middle_value list middle front behind next others order e =
       let new : List ℕ = take front list ++ (middle ++ drop behind list) in
       let w = arc_weight model p in
       let after : along (arc_weight model p) v start (new ++ end ∷ []) ≡ along (arc_weight model p) v start (take front list ++ (middle ++ next ∷ others))
       = ap (along (arc_weight model p) v start) (joins_end (take front list) middle (drop behind list) others next e) in
-      let before : along (arc_weight model p) v start (list ++ end ∷ []) ≡ along (arc_weight model p) v start (take front list ++ (slice_range list front behind ++ next ∷ others))
-      = ap (along (arc_weight model p) v start) (ap (λ xs. xs ++ end ∷ []) (three list front behind order) ∙ joins_end (take front list) (slice_range list front behind) (drop behind list) others next e) in
+      let before : along (arc_weight model p) v start (list ++ end ∷ []) ≡ along (arc_weight model p)
+      v start (take front list ++ (slice_range list front behind ++ next ∷ others))
+      = ap (along (arc_weight model p) v start) (ap (λ xs. xs ++ end ∷ []) (three list front behind order)
+      ∙ joins_end (take front list) (slice_range list front behind) (drop behind list) others next e) in
       let local = local_change (arc_weight model p) v start next (take front list) (slice_range list front behind) middle others in
       omega (arith, ints, bare new, bare list, after, before, local)
 
   -- of pieces too
-  pub part_value : (lists : List (List ℕ)) (pieces middle : List Piece) (front behind next : ℕ) (others : List ℕ) → IsSplice lists v pieces front behind middle → drop behind (route lists v) ++ end ∷ [] ≡ next ∷ others
+  pub part_value : (lists : List (List ℕ)) (pieces middle : List Piece) (front behind next : ℕ) (others : List ℕ)
+      → IsSplice lists v pieces front behind middle → drop behind (route lists v) ++ end ∷ [] ≡ next ∷ others
       → route_weight model p v (joined lists pieces) -ℤ route_weight model p v (route lists v)
-      ≡ (stretch_weight model p v (last_of start (take front (route lists v))) (joined lists middle) next -ℤ unused_weight model p v (length (joined lists pieces)))
-      -ℤ (stretch_weight model p v (last_of start (take front (route lists v))) (slice_range (route lists v) front behind) next -ℤ unused_weight model p v (length (route lists v)))
+      ≡ (stretch_weight model p v (last_of start (take front (route lists v))) (joined lists middle) next
+      -ℤ unused_weight model p v (length (joined lists pieces)))
+      -ℤ (stretch_weight model p v (last_of start (take front (route lists v))) (slice_range (route lists v) front behind) next
+      -ℤ unused_weight model p v (length (route lists v)))
   part_value lists pieces middle front behind next others ends e =
       subst (λ xs. route_weight model p v xs -ℤ route_weight model p v (route lists v)
       ≡ (stretch_weight model p v (last_of start (take front (route lists v))) (joined lists middle) next -ℤ unused_weight model p v (length xs))
-      -ℤ (stretch_weight model p v (last_of start (take front (route lists v))) (slice_range (route lists v) front behind) next -ℤ unused_weight model p v (length (route lists v))))
+      -ℤ (stretch_weight model p v (last_of start (take front (route lists v))) (slice_range (route lists v) front behind) next
+      -ℤ unused_weight model p v (length (route lists v))))
       (sym ends.joins) (middle_value (route lists v) (joined lists middle) front behind next others ends.order e)
 
 -- the lengths of the three parts of the new list
-pub new_length : (lists : List (List ℕ)) (v : ℕ) (pieces middle : List Piece) (front behind : ℕ) → IsSplice lists v pieces front behind middle → length (joined lists pieces) ≡ front + length (joined lists middle) + (length (route lists v) - behind)
+pub new_length : (lists : List (List ℕ)) (v : ℕ) (pieces middle : List Piece) (front behind : ℕ) → IsSplice lists v pieces front behind middle
+    → length (joined lists pieces) ≡ front + length (joined lists middle) + (length (route lists v) - behind)
 new_length lists v pieces middle front behind ends =
     let order = ends.order in
     let high = ends.high in
@@ -99,7 +111,8 @@ new_length lists v pieces middle front behind ends =
 -- ---- sums over vehicles
 
 module _ (g : ℕ → List ℕ → ℤ) (lists : List (List ℕ)) (v : ℕ) (xs : List ℕ) (low : v < length lists) where
-  sum_set : (n : ℕ) → total_by (λ w. g w (route (slice_set lists v xs) w)) (below n) ≡ total_by (λ w. g w (route lists w)) (below n) +ℤ cond (nat_lt v n) (g v xs -ℤ g v (route lists v)) (pos 0)
+  sum_set : (n : ℕ) → total_by (λ w. g w (route (slice_set lists v xs) w)) (below n)
+      ≡ total_by (λ w. g w (route lists w)) (below n) +ℤ cond (nat_lt v n) (g v xs -ℤ g v (route lists v)) (pos 0)
   sum_set zero = ap (λ b. pos 0 +ℤ cond b (g v xs -ℤ g v (route lists v)) (pos 0)) (sym (le-ltb v 0 (omega arith)))
   sum_set (suc n) = at (eqb_tells v n) (sum_set n)
     where
@@ -109,16 +122,20 @@ module _ (g : ℕ → List ℕ → ℤ) (lists : List (List ℕ)) (v : ℕ) (xs 
       more : (f : ℕ → ℤ) → total_by f (below (suc n)) ≡ total_by f (below n) +ℤ f n
       more f = ap (λ k. total_by f (below k)) one ∙ total_by-more f n
 
-      at : ((v == n) ≡ true × (v ≡ n)) ⊎ ((v == n) ≡ false × (v ≢ n)) → total_by (λ w. g w (route (slice_set lists v xs) w)) (below n) ≡ total_by (λ w. g w (route lists w)) (below n) +ℤ cond (nat_lt v n) (g v xs -ℤ g v (route lists v)) (pos 0)
-          → total_by (λ w. g w (route (slice_set lists v xs) w)) (below (suc n)) ≡ total_by (λ w. g w (route lists w)) (below (suc n)) +ℤ cond (nat_lt v (suc n)) (g v xs -ℤ g v (route lists v)) (pos 0)
+      at : ((v == n) ≡ true × (v ≡ n)) ⊎ ((v == n) ≡ false × (v ≢ n)) → total_by (λ w. g w (route (slice_set lists v xs) w)) (below n)
+          ≡ total_by (λ w. g w (route lists w)) (below n) +ℤ cond (nat_lt v n) (g v xs -ℤ g v (route lists v)) (pos 0)
+          → total_by (λ w. g w (route (slice_set lists v xs) w)) (below (suc n))
+          ≡ total_by (λ w. g w (route lists w)) (below (suc n)) +ℤ cond (nat_lt v (suc n)) (g v xs -ℤ g v (route lists v)) (pos 0)
       at (inl e) h =
-          let new : g n (route (slice_set lists v xs) n) ≡ g v xs = ap (λ w. g w (route (slice_set lists v xs) w)) (sym e.1) ∙ ap (g v) (route_set_same lists v xs low) in
+          let new : g n (route (slice_set lists v xs) n) ≡ g v xs = ap (λ w. g w (route (slice_set lists v xs) w)) (sym e.1)
+          ∙ ap (g v) (route_set_same lists v xs low) in
           let old : g n (route lists n) ≡ g v (route lists v) = ap (λ w. g w (route lists w)) (sym e.1) in
           let same = e.1 in
           let not_yet : nat_lt v n ≡ false = le-ltb v n (omega (arith, same)) in
           let now : nat_lt v (suc n) ≡ true = lt-ltb v (suc n) (omega (arith, same)) in
           let before = h ∙ ap (λ b. total_by (λ w. g w (route lists w)) (below n) +ℤ cond b (g v xs -ℤ g v (route lists v)) (pos 0)) not_yet in
-          let sums : total_by (λ w. g w (route (slice_set lists v xs) w)) (below (suc n)) ≡ total_by (λ w. g w (route lists w)) (below (suc n)) +ℤ (g v xs -ℤ g v (route lists v))
+          let sums : total_by (λ w. g w (route (slice_set lists v xs) w)) (below (suc n)) ≡
+          total_by (λ w. g w (route lists w)) (below (suc n)) +ℤ (g v xs -ℤ g v (route lists v))
           = omega (arith, ints, more (λ w. g w (route (slice_set lists v xs) w)), more (λ w. g w (route lists w)), new, old, before) in
           sums ∙ ap (λ b. total_by (λ w. g w (route lists w)) (below (suc n)) +ℤ cond b (g v xs -ℤ g v (route lists v)) (pos 0)) (sym now)
       at (inr e) h =
@@ -134,10 +151,14 @@ module _ (model : Model) (p : Penalties) where
   sums lists = total_by_each (arc_weight model p) (λ v. arcs_of model v (route lists v)) (vehicles lists)
 
   -- one list is changed
-  pub one_changed : (lists : List (List ℕ)) (v : ℕ) (xs : List ℕ) → v < length lists → penalised model p (slice_set lists v xs) -ℤ penalised model p lists ≡ route_weight model p v xs -ℤ route_weight model p v (route lists v)
+  pub one_changed : (lists : List (List ℕ)) (v : ℕ) (xs : List ℕ) → v < length lists
+      → penalised model p (slice_set lists v xs) -ℤ penalised model p lists ≡ route_weight model p v xs -ℤ route_weight model p v (route lists v)
   one_changed lists v xs low =
-      let all = sum_set (route_weight model p) lists v xs low (length lists) ∙ ap (λ b. total_by (λ w. route_weight model p w (route lists w)) (below (length lists)) +ℤ cond b (route_weight model p v xs -ℤ route_weight model p v (route lists v)) (pos 0)) (lt-ltb v (length lists) low) in
-      let new = sums (slice_set lists v xs) ∙ ap (λ k. total_by (λ w. route_weight model p w (route (slice_set lists v xs) w)) (below k)) (length-set lists v xs) in
+      let all = sum_set (route_weight model p) lists v xs low (length lists)
+      ∙ ap (λ b. total_by (λ w. route_weight model p w (route lists w)) (below (length lists))
+      +ℤ cond b (route_weight model p v xs -ℤ route_weight model p v (route lists v)) (pos 0)) (lt-ltb v (length lists) low) in
+      let new = sums (slice_set lists v xs)
+      ∙ ap (λ k. total_by (λ w. route_weight model p w (route (slice_set lists v xs) w)) (below k)) (length-set lists v xs) in
       omega (arith, ints, all, new, sums lists)
 
   -- two lists are changed
@@ -165,11 +186,13 @@ one_part model p lists (q ∷ []) are one d = one_changed model p lists q.vehicl
 one_part model p lists (q ∷ (r ∷ rest)) are one d = none_there (length rest) (omega (arith, one))
 
 two_parts : (model : Model) (p : Penalties) (lists : List (List ℕ)) (parts : List ListAfter) → AreParts lists parts → length parts ≡ 2 → (d : ListAfter)
-    → penalised model p (changed lists parts) -ℤ penalised model p lists ≡ weight_change model p lists (slice_index_or parts 0 d) +ℤ weight_change model p lists (slice_index_or parts 1 d)
+    → penalised model p (changed lists parts) -ℤ penalised model p lists
+    ≡ weight_change model p lists (slice_index_or parts 0 d) +ℤ weight_change model p lists (slice_index_or parts 1 d)
 two_parts model p lists [] are two d = none_there 0 (omega (arith, two))
 two_parts model p lists (q ∷ []) are two d = none_there 0 (omega (arith, two))
 two_parts model p lists (q ∷ (r ∷ [])) are two d =
-    two_changed model p lists q.vehicle r.vehicle (joined lists q.pieces) (joined lists r.pieces) (are.each_vehicle 0 d (omega arith)) (are.each_vehicle 1 d (omega arith)) (are.apart 0 1 d (omega arith) (omega arith))
+    two_changed model p lists q.vehicle r.vehicle (joined lists q.pieces) (joined lists r.pieces)
+    (are.each_vehicle 0 d (omega arith)) (are.each_vehicle 1 d (omega arith)) (are.apart 0 1 d (omega arith) (omega arith))
 two_parts model p lists (q ∷ (r ∷ (t ∷ rest))) are two d = none_there (length rest) (omega (arith, two))
 
 -- ---- bounds
@@ -182,12 +205,15 @@ within (negsuc k) n m most low high below above = omega (arith, ints, low, below
 -- ---- in 128 bits
 
 -- what is worked out in 128 bits is the difference
-pub as_read : (n o u w : ℤ) → pos 0 ≤ℤ n → n ≤ℤ pos (1001 * 2 ^ 70) → pos 0 ≤ℤ o → o ≤ℤ pos (1001 * 2 ^ 70) → pos 0 ≤ℤ u → u ≤ℤ pos (2 ^ 70) → pos 0 ≤ℤ w → w ≤ℤ pos (2 ^ 70)
-    → to_z w128 (of_z w128 (to_z w128 (of_z w128 (to_z w128 (of_z w128 n) -ℤ to_z w128 (of_z w128 w))) -ℤ to_z w128 (of_z w128 (to_z w128 (of_z w128 o) -ℤ to_z w128 (of_z w128 u))))) ≡ (n -ℤ w) -ℤ (o -ℤ u)
+pub as_read : (n o u w : ℤ) → pos 0 ≤ℤ n → n ≤ℤ pos (1001 * 2 ^ 70) → pos 0 ≤ℤ o
+    → o ≤ℤ pos (1001 * 2 ^ 70) → pos 0 ≤ℤ u → u ≤ℤ pos (2 ^ 70) → pos 0 ≤ℤ w → w ≤ℤ pos (2 ^ 70)
+    → to_z w128 (of_z w128 (to_z w128 (of_z w128 (to_z w128 (of_z w128 n) -ℤ to_z w128 (of_z w128 w)))
+    -ℤ to_z w128 (of_z w128 (to_z w128 (of_z w128 o) -ℤ to_z w128 (of_z w128 u))))) ≡ (n -ℤ w) -ℤ (o -ℤ u)
 as_read n o u w n_low n_high o_low o_high u_low u_high w_low w_high =
     let after : to_z w128 (of_z w128 (to_z w128 (of_z w128 n) -ℤ to_z w128 (of_z w128 w))) ≡ n -ℤ w = omega (arith, ints, n_low, n_high, w_low, w_high) in
     let before : to_z w128 (of_z w128 (to_z w128 (of_z w128 o) -ℤ to_z w128 (of_z w128 u))) ≡ o -ℤ u = omega (arith, ints, o_low, o_high, u_low, u_high) in
-    let same : to_z w128 (of_z w128 ((n -ℤ w) -ℤ (o -ℤ u))) ≡ (n -ℤ w) -ℤ (o -ℤ u) = omega (arith, ints, n_low, n_high, o_low, o_high, u_low, u_high, w_low, w_high) in
+    let same : to_z w128 (of_z w128 ((n -ℤ w) -ℤ (o -ℤ u))) ≡ (n -ℤ w) -ℤ (o -ℤ u) =
+    omega (arith, ints, n_low, n_high, o_low, o_high, u_low, u_high, w_low, w_high) in
     ap₂ (λ x y. to_z w128 (of_z w128 (x -ℤ y))) after before ∙ same
 
 -- ---- the premises of a part
@@ -197,7 +223,8 @@ pub second_there : (n k : ℕ) → k ≡ n → 1 ≤ k → (k ≡ 1 → ⊥) →
 second_there n k e some apart = Prim.grind (arith, e, some, apart)
 
 -- a part of a change of the lists of a model is one of a vehicle of it
-pub part_of : (model : Model) → IsWellFormed model → (lists : List (List ℕ)) → IsTrue (is_valid model lists) → (parts : List ListAfter) → AreParts lists parts → IsTrue (are_lists model (changed lists parts))
+pub part_of : (model : Model) → IsWellFormed model → (lists : List (List ℕ)) → IsTrue (is_valid model lists)
+    → (parts : List ListAfter) → AreParts lists parts → IsTrue (are_lists model (changed lists parts))
     → (k v : ℕ) → k < length parts → v ≡ (part_at parts k).vehicle → IsPart model lists v (part_at parts k).pieces
 part_of model well lists valid parts are after k v low is =
     let old = are-lists model lists valid in
@@ -223,7 +250,8 @@ module _ (model : Model) (p : Penalties) {lists : List (List ℕ)} {parts : List
   alone one = one_part model p lists parts are (sym count ∙ one) no_part
 
   pub together : 1 ≤ k → k ≤ 2 → (k ≡ 1 → ⊥)
-      → penalised model p (changed lists parts) -ℤ penalised model p lists ≡ weight_change model p lists (part_at parts 0) +ℤ weight_change model p lists (part_at parts 1)
+      → penalised model p (changed lists parts) -ℤ penalised model p lists
+      ≡ weight_change model p lists (part_at parts 0) +ℤ weight_change model p lists (part_at parts 1)
   together some few more =
       let second = second_there (length parts) k count some more in
       two_parts model p lists parts are (omega (arith, count, few, second)) no_part
@@ -236,7 +264,8 @@ total-none f (x ∷ xs) none = let here = none x in let rest = total-none f xs n
 
 -- where no arc was penalised, nothing is added
 unpenalised : (model : Model) (p : Penalties) (lists : List (List ℕ)) → p ≡ no_penalties → penalised model p lists ≡ pos 0
-unpenalised model p lists none = ap (λ q. penalised model q lists) none ∙ total-none (arc_weight model no_penalties) (used_arcs model lists) (λ arc. zero-*ℤ (cost_of_arc model arc))
+unpenalised model p lists none = ap (λ q. penalised model q lists) none
+    ∙ total-none (arc_weight model no_penalties) (used_arcs model lists) (λ arc. zero-*ℤ (cost_of_arc model arc))
 
 -- nor is anything changed
 pub unchanged : (model : Model) (p : Penalties) (lists after : List (List ℕ)) → p ≡ no_penalties → penalised model p after -ℤ penalised model p lists ≡ pos 0
@@ -247,4 +276,5 @@ unchanged model p lists after none =
 
 -- nor do the arcs of a vehicle add anything
 pub unweighed : (model : Model) (p : Penalties) (v : ℕ) (list : List ℕ) → p ≡ no_penalties → route_weight model p v list ≡ pos 0
-unweighed model p v list none = ap (λ q. route_weight model q v list) none ∙ total-none (arc_weight model no_penalties) (arcs_of model v list) (λ arc. zero-*ℤ (cost_of_arc model arc))
+unweighed model p v list none = ap (λ q. route_weight model q v list) none
+    ∙ total-none (arc_weight model no_penalties) (arcs_of model v list) (λ arc. zero-*ℤ (cost_of_arc model arc))

@@ -31,7 +31,8 @@ module _ (model : Model) (limit : Limit) (lambda : Lambda) where
       no e = Prim.cc
   some_moves state (suc n) e = omega arith
 
-  after_move : (p : Penalties) (state : SearchState) (n : ℕ) (mv : Move) → guided_scan model limit lambda p state ≡ Accepted n mv → (1 ≤ n) × (n ≤ limit.tries - state.used)
+  after_move : (p : Penalties) (state : SearchState) (n : ℕ) (mv : Move)
+      → guided_scan model limit lambda p state ≡ Accepted n mv → (1 ≤ n) × (n ≤ limit.tries - state.used)
   after_move p state n mv e = let is = ends p state (Accepted n mv) e in (is.0.from_one, is.1)
 
   after_round : (p : Penalties) (state : SearchState) (n : ℕ) → guided_scan model limit lambda p state ≡ Complete n → n ≤ limit.tries - state.used

@@ -50,8 +50,11 @@ module _ (model : Model) (best : Worth) (some : int_lt (pos 0) best.cost ≡ tru
 
   module _ (b : ℕ → ℕ → Bool) (arc : UsedArc) (low : is_no_more (worth_of model p arc) best ≡ true) where
     -- an arc that was raised is worth less than the greatest
-    was : (c : Bool) → b arc.origin arc.target ≡ c → is_no_more best (record { cost = cost_of_arc model arc; penalty = cond c (suc (p arc.origin arc.target)) (p arc.origin arc.target) }) ≡ is_no_more best (worth_of model (up b) arc)
-    was c e = ap (λ c. is_no_more best (record { cost = cost_of_arc model arc; penalty = cond c (suc (p arc.origin arc.target)) (p arc.origin arc.target) })) (sym e)
+    was : (c : Bool) → b arc.origin arc.target ≡ c
+        → is_no_more best (record { cost = cost_of_arc model arc; penalty = cond c (suc (p arc.origin arc.target)) (p arc.origin arc.target) })
+        ≡ is_no_more best (worth_of model (up b) arc)
+    was c e =
+        ap (λ c. is_no_more best (record { cost = cost_of_arc model arc; penalty = cond c (suc (p arc.origin arc.target)) (p arc.origin arc.target) })) (sym e)
 
     there : (origin target : ℕ) → leads origin target arc ≡ true → b origin target ≡ b arc.origin arc.target
     there origin target l = let same = same_pair arc.origin arc.target origin target l in
@@ -59,7 +62,8 @@ module _ (model : Model) (best : Worth) (some : int_lt (pos 0) best.cost ≡ tru
 
     at_pair : (origin target : ℕ) → raised_once model best (up b) arc origin target ≡ up (with_hits b arc) origin target
     at_pair origin target = chosen (is_no_more best (worth_of model (up b) arc)) (increased (up b) arc) (up b) origin target
-        ∙ mix (is_no_more best (worth_of model (up b) arc)) (leads origin target arc) (b origin target) (is_no_more best (worth_of model p arc)) (p origin target)
+        ∙ mix (is_no_more best (worth_of model (up b) arc)) (leads origin target arc)
+        (b origin target) (is_no_more best (worth_of model p arc)) (p origin target)
         (λ l c. sym (was true (sym (there origin target l) ∙ c)) ∙ beaten (worth_of model p arc) best some low)
         (λ l c. sym (was false (sym (there origin target l) ∙ c)))
 
@@ -81,18 +85,24 @@ module _ (model : Model) (best : Worth) (some : int_lt (pos 0) best.cost ≡ tru
       let parts = both (is_no_more (worth_of model p arc) best) (list_all (λ arc. is_no_more (worth_of model p arc) best) arcs) low in
       ap (λ q. raised_in_turn model best q arcs) (once b arc parts.0)
       ∙ (in_turn (with_hits b arc) arcs parts.1
-      ∙ (λ i origin target. cond (or_again (b origin target) (hits origin target arc) (list_any (hits origin target) arcs) i) (suc (p origin target)) (p origin target)))
+      ∙ (λ i origin target. cond (or_again (b origin target) (hits origin target arc) (list_any (hits origin target) arcs) i)
+      (suc (p origin target)) (p origin target)))
 
 -- raising the arcs one after the other is raising those of the greatest worth
 pub raised_all : (model : Model) (p : Penalties) (lists : List (List ℕ)) → has_costly_arc model lists ≡ true
     → raised_in_turn model (greatest_worth (worth_of model p) worthless (used_arcs model lists)) p (used_arcs model lists) ≡ raised model p lists
 raised_all model p lists costly =
-    in_turn model (greatest_worth (worth_of model p) worthless (used_arcs model lists)) (greatest_costs (worth_of model p) (used_arcs model lists) costly) p (λ origin target. false) (used_arcs model lists)
+    in_turn model (greatest_worth (worth_of model p) worthless (used_arcs model lists))
+    (greatest_costs (worth_of model p) (used_arcs model lists) costly) p (λ origin target. false) (used_arcs model lists)
     (greatest_is (worth_of model p) (used_arcs model lists) costly)
-    ∙ sym (λ i origin target. cond (list_any (λ arc. leads origin target arc && tells (worth_of model p) (used_arcs model lists) costly (worth_of model p arc) i) (used_arcs model lists)) (suc (p origin target)) (p origin target))
+    ∙ sym
+    (λ i origin target. cond
+    (list_any (λ arc. leads origin target arc && tells (worth_of model p) (used_arcs model lists) costly (worth_of model p arc) i) (used_arcs model lists))
+    (suc (p origin target)) (p origin target))
 
 -- first some arcs, then others
-pub in_turn_more : (model : Model) (best : Worth) (p : Penalties) (xs ys : List UsedArc) → raised_in_turn model best p (xs ++ ys) ≡ raised_in_turn model best (raised_in_turn model best p xs) ys
+pub in_turn_more : (model : Model) (best : Worth) (p : Penalties) (xs ys : List UsedArc)
+    → raised_in_turn model best p (xs ++ ys) ≡ raised_in_turn model best (raised_in_turn model best p xs) ys
 in_turn_more model best p [] ys = refl
 in_turn_more model best p (x ∷ xs) ys = in_turn_more model best (raised_once model best p x) xs ys
 
@@ -105,8 +115,10 @@ once_most model best p arc most few = go (is_no_more best (worth_of model p arc)
     go false = record { each = λ a b. (let k = few.each a b in omega (arith, k)) }
 
 -- the same of what the penalties are after it
-pub once_within : (model : Model) (best : Worth) (p q : Penalties) (arc : UsedArc) (most limit : ℕ) → q ≡ raised_once model best p arc → AtMost most p → most + 1 ≤ limit → AtMost limit q
-once_within model best p q arc most limit e few low = record { each = λ a b. (let k = (once_most model best p arc most few).each a b in let same = ap (λ f. f a b) e in omega (arith, k, same, low)) }
+pub once_within : (model : Model) (best : Worth) (p q : Penalties) (arc : UsedArc) (most limit : ℕ)
+    → q ≡ raised_once model best p arc → AtMost most p → most + 1 ≤ limit → AtMost limit q
+once_within model best p q arc most limit e few low =
+    record { each = λ a b. (let k = (once_most model best p arc most few).each a b in let same = ap (λ f. f a b) e in omega (arith, k, same, low)) }
 
 pub at_most_more : (p : Penalties) (most limit : ℕ) → most ≤ limit → AtMost most p → AtMost limit p
 at_most_more p most limit low few = record { each = λ a b. (let k = few.each a b in omega (arith, k, low)) }

@@ -16,16 +16,20 @@ pub written_more : (model : Model) (p : Penalties) (lists : List (List ℕ)) (v 
     → (w : ℕ) → w < v + 1 → AreRouteSums model p w (route lists w) (slice_index_or after w no_route_sums)
 written_more model p lists v before after low each written w under = elim (eqb_tells w v) [
   | inl at ↦ subst (λ u. AreRouteSums model p u (route lists u) (slice_index_or after u no_route_sums)) (sym at.1) (written.here low)
-  | inr other ↦ subst (AreRouteSums model p w (route lists w)) (sym (written.others w other.1)) (each w (let apart = other.1 in Prim.grind (arith, apart, under)))
+  | inr other ↦
+      subst (AreRouteSums model p w (route lists w)) (sym (written.others w other.1)) (each w (let apart = other.1 in Prim.grind (arith, apart, under)))
 ]
 
-module _ (model : Model) (p : Penalties) (lists later : List (List ℕ)) (before : List RouteSums) (are : AreAllRouteSums model p lists before) (many : length later ≡ length model.vehicles) where
+module _ (model : Model) (p : Penalties) (lists later : List (List ℕ)) (before : List RouteSums)
+    (are : AreAllRouteSums model p lists before) (many : length later ≡ length model.vehicles) where
   abbrev AreOf : ℕ → RouteSums → Type 0
   AreOf u both = AreRouteSums model p u (route later u) both
 
   -- the sums of a vehicle that was not written
-  left_alone : (u : ℕ) → u < length model.vehicles → route later u ≡ route lists u → {both : RouteSums} → both ≡ slice_index_or before u no_route_sums → AreOf u both
-  left_alone u low same is = subst (AreOf u) (sym is) (subst (λ l. AreRouteSums model p u l (slice_index_or before u no_route_sums)) (sym same) (are.each u low))
+  left_alone : (u : ℕ) → u < length model.vehicles → route later u ≡ route lists u
+      → {both : RouteSums} → both ≡ slice_index_or before u no_route_sums → AreOf u both
+  left_alone u low same is =
+      subst (AreOf u) (sym is) (subst (λ l. AreRouteSums model p u l (slice_index_or before u no_route_sums)) (sym same) (are.each u low))
 
   -- one list is another one, and its sums were written
   pub after_one : (v : ℕ) (after : List RouteSums) → IsWritten model p later v before after → SameBut v v lists later → AreAllRouteSums model p later after
@@ -33,20 +37,24 @@ module _ (model : Model) (p : Penalties) (lists later : List (List ℕ)) (before
     many = written.long ∙ are.many;
     known = many;
     each = λ u low. elim (eqb_tells u v) [
-      | inl at ↦ subst (λ x. AreOf x (slice_index_or after x no_route_sums)) (sym at.1) (written.here (let is = at.1 in let n = are.many in omega (arith, is, n, low)))
+      | inl at ↦
+          subst (λ x. AreOf x (slice_index_or after x no_route_sums)) (sym at.1) (written.here (let is = at.1 in let n = are.many in omega (arith, is, n, low)))
       | inr other ↦ left_alone u low (same u other.1 other.1) (written.others u other.1)
     ];
   }
 
   -- two lists are
-  pub after_two : (v w : ℕ) (mid after : List RouteSums) → IsWritten model p later v before mid → IsWritten model p later w mid after → SameBut v w lists later → AreAllRouteSums model p later after
+  pub after_two : (v w : ℕ) (mid after : List RouteSums) → IsWritten model p later v before mid
+      → IsWritten model p later w mid after → SameBut v w lists later → AreAllRouteSums model p later after
   after_two v w mid after first second same = record {
     many = second.long ∙ (first.long ∙ are.many);
     known = many;
     each = λ u low. elim (eqb_tells u w) [
-      | inl at ↦ subst (λ x. AreOf x (slice_index_or after x no_route_sums)) (sym at.1) (second.here (let is = at.1 in let n = are.many in let k = first.long in omega (arith, is, n, k, low)))
+      | inl at ↦ subst (λ x. AreOf x (slice_index_or after x no_route_sums)) (sym at.1)
+          (second.here (let is = at.1 in let n = are.many in let k = first.long in omega (arith, is, n, k, low)))
       | inr other ↦ subst (AreOf u) (sym (second.others u other.1)) (elim (eqb_tells u v) [
-        | inl at ↦ subst (λ x. AreOf x (slice_index_or mid x no_route_sums)) (sym at.1) (first.here (let is = at.1 in let n = are.many in omega (arith, is, n, low)))
+        | inl at ↦
+            subst (λ x. AreOf x (slice_index_or mid x no_route_sums)) (sym at.1) (first.here (let is = at.1 in let n = are.many in omega (arith, is, n, low)))
         | inr apart ↦ left_alone u low (same u apart.1 other.1) (first.others u apart.1)
       ])
     ];
@@ -57,7 +65,8 @@ pub same_one : (v w : ℕ) (lists later : List (List ℕ)) → w ≡ v → SameB
 same_one v w lists later is same u apart _ = same u apart (λ e. apart (e ∙ is))
 
 -- one entry is another one
-pub written : (model : Model) (p : Penalties) (later : List (List ℕ)) (v : ℕ) (before : List RouteSums) (both : RouteSums) → v < length before → AreRouteSums model p v (route later v) both
+pub written : (model : Model) (p : Penalties) (later : List (List ℕ)) (v : ℕ) (before : List RouteSums) (both : RouteSums)
+    → v < length before → AreRouteSums model p v (route later v) both
     → IsWritten model p later v before (slice_set before v both)
 written model p later v before both low are = record {
   long = length-set before v both;
@@ -66,5 +75,6 @@ written model p later v before both low are = record {
 }
 
 -- there is no such vehicle
-pub unwritten : (model : Model) (p : Penalties) (later : List (List ℕ)) (v : ℕ) (before : List RouteSums) → (v < length before → ⊥) → IsWritten model p later v before before
+pub unwritten : (model : Model) (p : Penalties) (later : List (List ℕ)) (v : ℕ) (before : List RouteSums)
+    → (v < length before → ⊥) → IsWritten model p later v before before
 unwritten model p later v before none = record { long = refl; here = λ low. absurd (none low); others = λ u apart. refl }

@@ -1,5 +1,6 @@
 -- What moves of a run save at most, by what stands in the place of stretches of their lists.
-use Rattle.std.proofs.Common.{◌≡◌, ◌≢◌, ◌∙◌, ℕ, zero, suc, ◌+◌, ◌-◌, ◌<◌, ◌≤◌, false, Option, Some, None, List, [], ◌∷◌, ◌++◌, length, take, drop, refl, sym, ap, subst, arith}
+use Rattle.std.proofs.Common.{◌≡◌, ◌≢◌, ◌∙◌, ℕ, zero, suc, ◌+◌, ◌-◌, ◌<◌, ◌≤◌, false, Option, Some, None, List, [], ◌∷◌, ◌++◌, length, take, drop, refl, sym}
+use Rattle.std.proofs.Common.{ap, subst, arith}
 use Rattle.std.specs.Prelude.{ℤ, ◌+ℤ◌, ◌-ℤ◌, ◌≤ℤ◌, All, IsTrue, insert, remove, slice_range, slice_set, slice_index_or}
 use Rattle.std.proofs.lemmas.Int.{ints}
 use Rattle.std.proofs.lemmas.List.Elements.{All-append, All-take, All-drop}
@@ -34,7 +35,8 @@ use Rattle.vr_guided.proofs.PartLemmas.{one_changed, two_changed}
 use Rattle.vr_guided.proofs.SumLemmas.{sums-between}
 use Rattle.vr_guided.proofs.WalkLemmas.{some_next}
 
-module _ (model : Model) (well : IsWellFormed model) (p : Penalties) (few : AtMost 1000000000 p) (lists : List (List ℕ)) (valid : IsTrue (is_valid model lists)) (v : ℕ) (known : v < length model.vehicles) where
+module _ (model : Model) (well : IsWellFormed model) (p : Penalties) (few : AtMost 1000000000 p)
+    (lists : List (List ℕ)) (valid : IsTrue (is_valid model lists)) (v : ℕ) (known : v < length model.vehicles) where
   abbrev list : List ℕ
   list = route lists v
 
@@ -43,7 +45,8 @@ module _ (model : Model) (well : IsWellFormed model) (p : Penalties) (few : AtMo
 
   -- by what the arcs of the stretch add
   pub taken_most : (front behind : ℕ) (most : ℤ) → front ≤ behind
-      → ((next : ℕ) (others : List ℕ) → drop behind list ++ (vehicle_at model v).end ∷ [] ≡ next ∷ others → stretch_weight model p v (last_of (vehicle_at model v).start (take front list)) (slice_range list front behind) next ≤ℤ most)
+      → ((next : ℕ) (others : List ℕ) → drop behind list ++ (vehicle_at model v).end ∷ [] ≡ next ∷ others
+      → stretch_weight model p v (last_of (vehicle_at model v).start (take front list)) (slice_range list front behind) next ≤ℤ most)
       → TakesAtMost model p v list front behind most
   taken_most front behind most order is middle nodes =
       let next = some_next (drop behind list) (vehicle_at model v).end in
@@ -55,20 +58,27 @@ module _ (model : Model) (well : IsWellFormed model) (p : Penalties) (few : AtMo
 
   -- the arc at a gap
   pub cut_most : (t : ℕ) (most : ℤ)
-      → ((next : ℕ) (others : List ℕ) → drop t list ++ (vehicle_at model v).end ∷ [] ≡ next ∷ others → stretch_weight model p v (last_of (vehicle_at model v).start (take t list)) (slice_range list t t) next ≤ℤ most)
+      → ((next : ℕ) (others : List ℕ) → drop t list ++ (vehicle_at model v).end ∷ [] ≡ next ∷ others
+      → stretch_weight model p v (last_of (vehicle_at model v).start (take t list)) (slice_range list t t) next ≤ℤ most)
       → CutAtMost model p v list t most
   cut_most t most is next others e =
-      subst (λ xs. stretch_weight model p v (last_of (vehicle_at model v).start (take t list)) xs next ≤ℤ most) (ap (λ k. take k (drop t list)) (let none : t - t ≡ 0 = omega arith in none)) (is next others e)
+      subst (λ xs. stretch_weight model p v (last_of (vehicle_at model v).start (take t list)) xs next ≤ℤ most)
+      (ap (λ k. take k (drop t list)) (let none : t - t ≡ 0 = omega arith in none)) (is next others e)
 
-  module _ {route_sums : List RouteSums} {both : RouteSums} (are : AreAllRouteSums model p lists route_sums) (of : both ≡ slice_index_or route_sums v no_route_sums) where
-    summed : (front behind : ℕ) → front ≤ behind → behind ≤ length list → IsStretch model p v list front behind (number_at both.forward (behind + 1) -ℤ number_at both.forward front)
+  module _ {route_sums : List RouteSums} {both : RouteSums} (are : AreAllRouteSums model p lists route_sums)
+      (of : both ≡ slice_index_or route_sums v no_route_sums) where
+    summed : (front behind : ℕ) → front ≤ behind → behind ≤ length list
+        → IsStretch model p v list front behind (number_at both.forward (behind + 1) -ℤ number_at both.forward front)
     summed front behind order high =
         let long = forward_long are v known of in
         kept_stretch are v known of well few valid front behind order high {total = number_at both.forward (behind + 1) -ℤ number_at both.forward front}
-        (λ sums. sums-between (weight_by model p false) v (vehicle_at model v).start (line_nodes model v list) both.forward front (behind + 1) sums (omega (arith, order)) (omega (arith, high, long)))
+        (λ sums. sums-between (weight_by model p false) v (vehicle_at model v).start (line_nodes model v list)
+        both.forward front (behind + 1) sums (omega (arith, order)) (omega (arith, high, long)))
 
-    by_sums : (front behind : ℕ) (most : ℤ) → front ≤ behind → behind ≤ length list → (number_at both.forward (behind + 1) -ℤ number_at both.forward front) ≤ℤ most → TakesAtMost model p v list front behind most
-    by_sums front behind most order high under = taken_most front behind most order (λ next others e. let value = (summed front behind order high).value next others e in omega (arith, ints, value, under))
+    by_sums : (front behind : ℕ) (most : ℤ) → front ≤ behind → behind ≤ length list
+        → (number_at both.forward (behind + 1) -ℤ number_at both.forward front) ≤ℤ most → TakesAtMost model p v list front behind most
+    by_sums front behind most order high under = taken_most front behind most order
+        (λ next others e. let value = (summed front behind order high).value next others e in omega (arith, ints, value, under))
 
     pub gap_cut : (t : ℕ) → t ≤ length list → CutAtMost model p v list t both.most_at_gap
     gap_cut t high = cut_most t both.most_at_gap (λ next others e.
@@ -89,7 +99,8 @@ module _ (model : Model) (well : IsWellFormed model) (p : Penalties) (few : AtMo
     place_most b low =
         let long = forward_long are v known of in
         let two : (b + 1) + 1 ≡ b + 2 = omega arith in
-        by_sums b (b + 1) both.most_at_place (omega arith) (omega (arith, low)) (subst (λ k. (number_at both.forward k -ℤ number_at both.forward b) ≤ℤ both.most_at_place) (sym two) (here.place b (omega (arith, low, long))))
+        by_sums b (b + 1) both.most_at_place (omega arith) (omega (arith, low))
+        (subst (λ k. (number_at both.forward k -ℤ number_at both.forward b) ≤ℤ both.most_at_place) (sym two) (here.place b (omega (arith, low, long))))
       where
         here : AreRouteSums model p v list both
         here = subst (AreRouteSums model p v list) (sym of) (are.each v known)
@@ -123,21 +134,25 @@ module _ (model : Model) (p : Penalties) (lists : List (List ℕ)) where
     node_low : (v a : ℕ) → a < length (route lists v) → node_at (route lists v) a < model.nodes
     node_low v a low = list_below model lists valid v refl a 0 low
 
-    pub relocating : (v a w : ℕ) (most most_w : ℤ) → (a < length (route lists v) → TakesAtMost model p v (route lists v) a (a + 1) most) → ((t : ℕ) → t ≤ length (route lists w) → TakesAtMost model p w (route lists w) t t most_w)
+    pub relocating : (v a w : ℕ) (most most_w : ℤ) → (a < length (route lists v) → TakesAtMost model p v (route lists v) a (a + 1) most)
+        → ((t : ℕ) → t ≤ length (route lists w) → TakesAtMost model p w (route lists w) t t most_w)
         → SavesAtMost model p lists (Relocate v a w 0) (most +ℤ most_w)
     relocating v a w most most_w is is_w t one =
         let f = of_relocate model lists v a w t one in
-        two_stretches v w a (a + 1) t t [] (node_at (route lists v) a ∷ []) most most_w (remove (route lists v) a) (insert (route lists w) t (node_at (route lists v) a))
+        two_stretches v w a (a + 1) t t [] (node_at (route lists v) a ∷ []) most most_w
+        (remove (route lists v) a) (insert (route lists w) t (node_at (route lists v) a))
         f.vehicle f.other f.apart no_node (one_node (node_at (route lists v) a) (node_low v a f.place)) (is f.place) (is_w t f.gap)
         (removed_is (route lists v) a) (inserted_as (route lists w) t (node_at (route lists v) a))
 
-    pub exchanging : (v a w : ℕ) (most most_w : ℤ) → v ≢ w → (a < length (route lists v) → TakesAtMost model p v (route lists v) a (a + 1) most) → ((b : ℕ) → b < length (route lists w) → TakesAtMost model p w (route lists w) b (b + 1) most_w)
+    pub exchanging : (v a w : ℕ) (most most_w : ℤ) → v ≢ w → (a < length (route lists v) → TakesAtMost model p v (route lists v) a (a + 1) most)
+        → ((b : ℕ) → b < length (route lists w) → TakesAtMost model p w (route lists w) b (b + 1) most_w)
         → SavesAtMost model p lists (Exchange v a w 0) (most +ℤ most_w)
     exchanging v a w most most_w apart is is_w b one =
         let f = of_exchange model lists v a w b one in
         let x : ℕ = node_at (route lists v) a in
         let y : ℕ = node_at (route lists w) b in
-        subst (λ later. (penalised model p lists -ℤ penalised model p later) ≤ℤ (most +ℤ most_w)) (exchanged_between lists v w b x (slice_set (route lists v) a y) apart)
+        subst (λ later. (penalised model p lists -ℤ penalised model p later) ≤ℤ (most +ℤ most_w))
+        (exchanged_between lists v w b x (slice_set (route lists v) a y) apart)
         (two_stretches v w a (a + 1) b (b + 1) (y ∷ []) (x ∷ []) most most_w (slice_set (route lists v) a y) (slice_set (route lists w) b x)
         f.vehicle f.other apart (one_node y (node_low w b f.other_place)) (one_node x (node_low v a f.place)) (is f.place) (is_w b f.other_place)
         (replaced_is (route lists v) a y f.place) (replaced_is (route lists w) b x f.other_place))
@@ -145,11 +160,13 @@ module _ (model : Model) (p : Penalties) (lists : List (List ℕ)) where
     inactive_low : (u : ℕ) → IsTrue (is_inactive model lists u) → u < model.nodes
     inactive_low u h = Prim.grind arith
 
-    pub making_active : (u w : ℕ) (most : ℤ) → ((t : ℕ) → t ≤ length (route lists w) → TakesAtMost model p w (route lists w) t t most) → SavesAtMost model p lists (MakeActive u w 0) most
+    pub making_active : (u w : ℕ) (most : ℤ) → ((t : ℕ) → t ≤ length (route lists w) → TakesAtMost model p w (route lists w) t t most)
+        → SavesAtMost model p lists (MakeActive u w 0) most
     making_active u w most is t one =
         let f = of_make_active model lists u w t one in
         let changed = one_changed model p lists w (insert (route lists w) t u) f.vehicle in
-        let saved = subst (λ zs. (route_weight model p w (route lists w) -ℤ route_weight model p w zs) ≤ℤ most) (inserted_as (route lists w) t u) (is t f.gap (u ∷ []) (one_node u (inactive_low u (and_left (is_inactive model lists u) _ one)))) in
+        let saved = subst (λ zs. (route_weight model p w (route lists w) -ℤ route_weight model p w zs) ≤ℤ most)
+        (inserted_as (route lists w) t u) (is t f.gap (u ∷ []) (one_node u (inactive_low u (and_left (is_inactive model lists u) _ one)))) in
         omega (arith, ints, changed, saved)
 
 -- ---- the vehicles that a run names
@@ -159,15 +176,19 @@ module _ (model : Model) (p : Penalties) (lists : List (List ℕ)) (mv : Move) (
   in_some None = touched
   in_some (Some both) = both
 
-  pub as_relocating : (v a w t : ℕ) → mv ≡ Relocate v a w t → SavesAtMost model p lists (Relocate touched.first a touched.second 0) z → SavesAtMost model p lists mv z
+  pub as_relocating : (v a w t : ℕ) → mv ≡ Relocate v a w t
+      → SavesAtMost model p lists (Relocate touched.first a touched.second 0) z → SavesAtMost model p lists mv z
   as_relocating v a w t is saves =
       let same : touched ≡ record { first = v; second = w } = ap in_some (subst (λ m. AreFound model lists m (Some touched)) is found) in
-      subst (λ m. SavesAtMost model p lists m z) (sym is) (subst (λ (both : Touched). SavesAtMost model p lists (Relocate both.first a both.second 0) z) same saves)
+      subst (λ m. SavesAtMost model p lists m z) (sym is)
+      (subst (λ (both : Touched). SavesAtMost model p lists (Relocate both.first a both.second 0) z) same saves)
 
-  pub as_exchanging : (v a w b : ℕ) → mv ≡ Exchange v a w b → SavesAtMost model p lists (Exchange touched.first a touched.second 0) z → SavesAtMost model p lists mv z
+  pub as_exchanging : (v a w b : ℕ) → mv ≡ Exchange v a w b
+      → SavesAtMost model p lists (Exchange touched.first a touched.second 0) z → SavesAtMost model p lists mv z
   as_exchanging v a w b is saves =
       let same : touched ≡ record { first = v; second = w } = ap in_some (subst (λ m. AreFound model lists m (Some touched)) is found) in
-      subst (λ m. SavesAtMost model p lists m z) (sym is) (subst (λ (both : Touched). SavesAtMost model p lists (Exchange both.first a both.second 0) z) same saves)
+      subst (λ m. SavesAtMost model p lists m z) (sym is)
+      (subst (λ (both : Touched). SavesAtMost model p lists (Exchange both.first a both.second 0) z) same saves)
 
   pub as_making_active : (u w t : ℕ) → mv ≡ MakeActive u w t → SavesAtMost model p lists (MakeActive u touched.first 0) z → SavesAtMost model p lists mv z
   as_making_active u w t is saves =
@@ -177,4 +198,5 @@ module _ (model : Model) (p : Penalties) (lists : List (List ℕ)) (mv : Move) (
   pub as_crossing : (v a w b : ℕ) → mv ≡ Cross v a w b → SavesAtMost model p lists (Cross touched.first a touched.second 0) z → SavesAtMost model p lists mv z
   as_crossing v a w b is saves =
       let same : touched ≡ record { first = v; second = w } = ap in_some (subst (λ m. AreFound model lists m (Some touched)) is found) in
-      subst (λ m. SavesAtMost model p lists m z) (sym is) (subst (λ (both : Touched). SavesAtMost model p lists (Cross both.first a both.second 0) z) same saves)
+      subst (λ m. SavesAtMost model p lists m z) (sym is)
+      (subst (λ (both : Touched). SavesAtMost model p lists (Cross both.first a both.second 0) z) same saves)

@@ -11,7 +11,8 @@ use Rattle.vr_model.specs.routes.Routes.{are_lists, route}
 use Rattle.vr_model.specs.routes.Rules.{is_valid}
 use Rattle.vr_model.specs.search.GuidedSearches.{Penalties, penalised}
 use Rattle.vr_model.specs.declared.neighbours.Move.{Move}
-use Rattle.vr_model.specs.declared.neighbours.Move.TheVariants.{TwoOpt, OrOpt, Relocate, Exchange, Cross, RelocatePair, PairActive, PairInactive, MakeActive, MakeInactive, SwapActive}
+use Rattle.vr_model.specs.declared.neighbours.Move.TheVariants.{TwoOpt, OrOpt, Relocate, Exchange, Cross, RelocatePair, PairActive, PairInactive, MakeActive}
+use Rattle.vr_model.specs.declared.neighbours.Move.TheVariants.{MakeInactive, SwapActive}
 use Rattle.vr_model.specs.declared.records.Model.{Model}
 use Rattle.vr_model.specs.declared.search.Lambda.{Lambda}
 use Rattle.vr_model.proofs.moves.KeptLists.{few as all_once, moves_keep_lists}
@@ -46,14 +47,16 @@ module _ (model : Model) (p : Penalties) (lists : List (List ℕ)) (both : Touch
       test : both.second ≡ both.first → (both.second == both.first) ≡ true
       test e = Prim.grind (arith, e)
 
-  pub two_touched : both.second ≢ both.first → touched_weight model p lists both ≡ route_weight model p both.first (route lists both.first) +ℤ route_weight model p both.second (route lists both.second)
+  pub two_touched : both.second ≢ both.first → touched_weight model p lists both
+      ≡ route_weight model p both.first (route lists both.first) +ℤ route_weight model p both.second (route lists both.second)
   two_touched apart = ap (λ b. at_first +ℤ cond b (pos 0) at_second) (test apart)
     where
       test : both.second ≢ both.first → (both.second == both.first) ≡ false
       test e = Prim.grind (arith, e)
 
   -- where neither adds anything
-  pub none_touched : route_weight model p both.first (route lists both.first) ≡ pos 0 → route_weight model p both.second (route lists both.second) ≡ pos 0 → touched_weight model p lists both ≤ℤ pos 0
+  pub none_touched : route_weight model p both.first (route lists both.first) ≡ pos 0
+      → route_weight model p both.second (route lists both.second) ≡ pos 0 → touched_weight model p lists both ≤ℤ pos 0
   none_touched none none_w = elim (eqb_tells both.second both.first) [
     | inl same ↦ (let value = one_touched same.1 in omega (arith, ints, value, none))
     | inr apart ↦ (let value = two_touched apart.1 in omega (arith, ints, value, none, none_w))
@@ -77,7 +80,8 @@ module _ (model : Model) (well : IsWellFormed model) (p : Penalties) (few : AtMo
     many = are_lists-count model later after ∙ sym (are_lists-count model lists are)
 
     -- lists that are the same but for two vehicles
-    taken : (v w : ℕ) → SameBut v w lists later → total_by g (below (length lists)) ≤ℤ (total_by h (below (length lists)) +ℤ (cond (nat_lt v (length lists)) (g v) (pos 0) +ℤ cond (nat_lt w (length lists)) (g w) (pos 0)))
+    taken : (v w : ℕ) → SameBut v w lists later → total_by g (below (length lists))
+        ≤ℤ (total_by h (below (length lists)) +ℤ (cond (nat_lt v (length lists)) (g v) (pos 0) +ℤ cond (nat_lt w (length lists)) (g w) (pos 0)))
     taken v w same = two_terms g h (length lists) (route_low lists are) (λ u low. route_low later after u (let n = many in omega (arith, n, low)))
         v w (λ u apart too. ap (route_weight model p u) (sym (same u apart too))) (length lists) (omega arith)
 
@@ -104,15 +108,18 @@ module _ (model : Model) (well : IsWellFormed model) (p : Penalties) (few : AtMo
     ]
 
   -- a move takes no more than they add
-  pub saved_most : (lists : List (List ℕ)) → IsTrue (is_valid model lists) → (mv : Move) → IsTrue (is_move model lists mv) → (both : Touched) → AreFound model lists mv (Some both)
+  pub saved_most : (lists : List (List ℕ)) → IsTrue (is_valid model lists) → (mv : Move)
+      → IsTrue (is_move model lists mv) → (both : Touched) → AreFound model lists mv (Some both)
       → (penalised model p lists -ℤ penalised model p (apply model lists mv)) ≤ℤ touched_weight model p lists both
   saved_most lists valid mv h both told =
       let are = are-lists model lists valid in
       let low = changed_have_lists model lists mv h both told in
-      touched_most lists (apply model lists mv) are (moves_keep_lists model well lists mv are h) both low.0 low.1 (unchanged_kept model lists (all_once model lists are) mv h both told)
+      touched_most lists (apply model lists mv) are (moves_keep_lists model well lists mv are h)
+      both low.0 low.1 (unchanged_kept model lists (all_once model lists are) mv h both told)
 
 -- a move is not taken where so much is no gain with the least difference that it may make
-never_a_gain : (model : Model) (p : Penalties) (lambda : Lambda) → pos 1 ≤ℤ lambda.p → pos 1 ≤ℤ lambda.q → (lists : List (List ℕ)) (mv : Move) (saved : ℤ) → (penalised model p lists -ℤ penalised model p (apply model lists mv)) ≤ℤ saved
+never_a_gain : (model : Model) (p : Penalties) (lambda : Lambda) → pos 1 ≤ℤ lambda.p → pos 1 ≤ℤ lambda.q
+    → (lists : List (List ℕ)) (mv : Move) (saved : ℤ) → (penalised model p lists -ℤ penalised model p (apply model lists mv)) ≤ℤ saved
     → (least : ℤ) → is_gain lambda least (pos 0 -ℤ saved) ≡ false → IsPassedOver model (makes_less model lambda p) lists mv least
 never_a_gain model p lambda p_some q_some lists mv saved most least none after low =
     let change = penalised_change model p lists mv in
@@ -123,7 +130,8 @@ never_a_gain model p lambda p_some q_some lists mv saved most least none after l
     no_less before after saved most = omega (arith, ints, most)
 
 -- moves that differ in their last number change the lists of the same vehicles
-same_changed : (model : Model) (lists : List (List ℕ)) (mv : Move) (k : ℕ) (both : Touched) → AreFound model lists mv (Some both) → AreFound model lists (with_last mv k) (Some both)
+same_changed : (model : Model) (lists : List (List ℕ)) (mv : Move) (k : ℕ) (both : Touched)
+    → AreFound model lists mv (Some both) → AreFound model lists (with_last mv k) (Some both)
 same_changed model lists (TwoOpt v a b) k both told = told
 same_changed model lists (OrOpt v a n t) k both told = told
 same_changed model lists (Relocate v a w t) k both told = told
@@ -137,14 +145,16 @@ same_changed model lists (MakeInactive v a) k both told = told
 same_changed model lists (SwapActive v a u) k both told = told
 
 -- what the arcs of two vehicles add is enough for all moves of a run that changes their lists
-pub run_saved : (model : Model) → IsWellFormed model → (p : Penalties) → AtMost 1000000000 p → (lists : List (List ℕ)) → IsTrue (is_valid model lists) → (mv : Move) (both : Touched) → AreFound model lists mv (Some both)
+pub run_saved : (model : Model) → IsWellFormed model → (p : Penalties) → AtMost 1000000000 p → (lists : List (List ℕ))
+    → IsTrue (is_valid model lists) → (mv : Move) (both : Touched) → AreFound model lists mv (Some both)
     → (saved : ℤ) → touched_weight model p lists both ≤ℤ saved → SavesAtMost model p lists mv saved
 run_saved model well p few lists valid mv both told saved most k one =
     let within = saved_most model well p few lists valid (with_last mv k) one both (same_changed model lists mv k both told) in
     omega (arith, ints, within, most)
 
 -- what is no gain with the most that a run saves is enough for its moves
-pub enough_for_run : (model : Model) (p : Penalties) (lambda : Lambda) → pos 1 ≤ℤ lambda.p → pos 1 ≤ℤ lambda.q → (lists : List (List ℕ)) (mv : Move) (saved : ℤ) → SavesAtMost model p lists mv saved
+pub enough_for_run : (model : Model) (p : Penalties) (lambda : Lambda) → pos 1 ≤ℤ lambda.p
+    → pos 1 ≤ℤ lambda.q → (lists : List (List ℕ)) (mv : Move) (saved : ℤ) → SavesAtMost model p lists mv saved
     → (enough : Option ℤ) → IfSome enough (λ e. is_gain lambda e (pos 0 -ℤ saved) ≡ false) → IfSome enough (IsEnough model (makes_less model lambda p) lists mv)
 enough_for_run model p lambda p_some q_some lists mv saved most None none = cc
 enough_for_run model p lambda p_some q_some lists mv saved most (Some enough) none = λ k one.

@@ -1,5 +1,6 @@
 -- What a round leaves as it is: the penalised arc costs that moves make of other vehicles than those of raised arcs.
-use Rattle.std.proofs.Common.{◌≡◌, ◌≢◌, ◌∙◌, ◌⊎◌, ◌++◌, ℕ, suc, ◌+◌, ◌<◌, ◌≤◌, Bool, true, false, cond, List, [], ◌∷◌, length, length-set, refl, sym, ap, ap₂, subst, arith, inl, inr, nat_lt}
+use Rattle.std.proofs.Common.{◌≡◌, ◌≢◌, ◌∙◌, ◌⊎◌, ◌++◌, ℕ, suc, ◌+◌, ◌<◌, ◌≤◌, Bool, true, false, cond, List, [], ◌∷◌, length, length-set, refl, sym, ap, ap₂}
+use Rattle.std.proofs.Common.{subst, arith, inl, inr, nat_lt}
 use Rattle.std.specs.Prelude.{IsTrue, ◌&&◌, ◌||◌, ◌==◌, ℤ, pos, ◌+ℤ◌, ◌-ℤ◌, ◌*ℤ◌, int_lt, slice_set}
 use Rattle.std.specs.List.{concat, list_all, list_any}
 use Rattle.std.proofs.lemmas.Bool.{cases_lt}
@@ -58,14 +59,16 @@ no_target false b e = refl
 
 module _ (v origin target last : ℕ) where
   -- no arc leads from a node that is not among those from which they lead
-  none_from : (at : ℕ) (nodes : List ℕ) → (at == origin) ≡ false → holds nodes origin ≡ false → list_any (leads origin target) (arcs_from v at (nodes ++ last ∷ [])) ≡ false
+  none_from : (at : ℕ) (nodes : List ℕ) → (at == origin) ≡ false → holds nodes origin ≡ false
+      → list_any (leads origin target) (arcs_from v at (nodes ++ last ∷ [])) ≡ false
   none_from at [] first others = ap (λ b. (b && (last == target)) || false) first
   none_from at (node ∷ nodes) first others =
       ap (λ b. (b && (node == target)) || list_any (leads origin target) (arcs_from v node (nodes ++ last ∷ []))) first
       ∙ none_from node nodes (swapped origin node (or_first (origin == node) _ others)) (or_second (origin == node) _ others)
 
 -- an arc of a list has a node of it at one end
-pub none_leads : (model : Model) (v : ℕ) (list : List ℕ) (origin target : ℕ) → holds list origin ≡ false → holds list target ≡ false → list_any (leads origin target) (arcs_of model v list) ≡ false
+pub none_leads : (model : Model) (v : ℕ) (list : List ℕ) (origin target : ℕ) → holds list origin ≡ false
+    → holds list target ≡ false → list_any (leads origin target) (arcs_of model v list) ≡ false
 none_leads model v [] origin target from to = refl
 none_leads model v (node ∷ nodes) origin target from to =
     ap (λ b. b || list_any (leads origin target) (arcs_from v node (nodes ++ (vehicle_at model v).end ∷ [])))
@@ -81,7 +84,8 @@ module _ (model : Model) (best : Worth) (origin target : ℕ) where
       go true = ap (λ b. cond b (suc (p origin target)) (p origin target)) none
       go false = refl
 
-  pub left_as_is : (p : Penalties) (arcs : List UsedArc) → list_any (leads origin target) arcs ≡ false → raised_in_turn model best p arcs origin target ≡ p origin target
+  pub left_as_is : (p : Penalties) (arcs : List UsedArc) → list_any (leads origin target) arcs ≡ false
+      → raised_in_turn model best p arcs origin target ≡ p origin target
   left_as_is p [] none = refl
   left_as_is p (arc ∷ arcs) none =
       left_as_is (raised_once model best p arc) arcs (or_second (leads origin target arc) _ none)
@@ -95,7 +99,8 @@ held_false list node none = fails (holds list node) none
 -- the arcs of a vehicle were raised, which changed since any move was refused
 pub spares_more : (model : Model) (best : Worth) (lists : List (List ℕ)) (v : ℕ) (first old new : Penalties) (before after : Memory)
     → new ≡ raised_in_turn model best old (arcs_of model v (route lists v))
-    → ((k : Neighbourhood) (r u : ℕ) → IsTrue (is_later after k r u) → IsTrue (is_later before k r u)) → ((k : Neighbourhood) (r : ℕ) → is_later after k r v ≡ false)
+    → ((k : Neighbourhood) (r u : ℕ) → IsTrue (is_later after k r u) → IsTrue (is_later before k r u))
+    → ((k : Neighbourhood) (r : ℕ) → is_later after k r v ≡ false)
     → SparesKnown lists first old before → SparesKnown lists first new after
 spares_more model best lists v first old new before after raises earlier changes spares kind row u w one two origin target from to =
     let not_first : v ≢ u = λ e. clash (is_later after kind row v) (subst (λ x. IsTrue (is_later after kind row x)) (sym e) one) (changes kind row) in
@@ -106,7 +111,8 @@ spares_more model best lists v first old new before after raises earlier changes
     ∙ spares kind row u w (earlier kind row u one) (earlier kind row w two) origin target from to
 
 -- nothing of the vehicle was raised
-pub spares_same : (lists : List (List ℕ)) (first old new : Penalties) (memory : Memory) → new ≡ old → SparesKnown lists first old memory → SparesKnown lists first new memory
+pub spares_same : (lists : List (List ℕ)) (first old new : Penalties) (memory : Memory)
+    → new ≡ old → SparesKnown lists first old memory → SparesKnown lists first new memory
 spares_same lists first old new memory same spares kind row u w one two origin target from to =
     ap (λ p. p origin target) same ∙ spares kind row u w one two origin target from to
 
@@ -123,10 +129,12 @@ module _ (x : ℕ) (lists : List (List ℕ)) (v w : ℕ) (low : v < length lists
       omega (arith, one, two, same)
 
 -- a node stands in one list alone
-once_only : (model : Model) (lists : List (List ℕ)) → are_lists model lists ≡ true → (x v w : ℕ) → v < length lists → w ≢ v → IsTrue (holds (route lists v) x) → IsTrue (holds (route lists w) x) → ⊥
+once_only : (model : Model) (lists : List (List ℕ)) → are_lists model lists ≡ true → (x v w : ℕ)
+    → v < length lists → w ≢ v → IsTrue (holds (route lists v) x) → IsTrue (holds (route lists w) x) → ⊥
 once_only model lists are x v w low apart here there = elim (cases_lt w (length lists)) [
   | inl low_w ↦ (
-      let distinct : IsTrue (is_distinct (concat lists)) = and_right (list_all (is_visit model) (concat lists)) _ (and_right (length lists == length model.vehicles) _ are) in
+      let distinct : IsTrue (is_distinct (concat lists)) = and_right (list_all (is_visit model) (concat lists))
+      _ (and_right (length lists == length model.vehicles) _ are) in
       let few = times_of_distinct (concat lists) distinct x in
       let all = joined_times x lists in
       let both = both_times x lists v w low low_w apart in
@@ -145,13 +153,16 @@ held_visit model (y ∷ ys) x all h = by (held_visit model ys x (and_right (is_v
     by later true e g = ap (is_visit model) (eq_of_test x y e) ∙ and_left (is_visit model y) _ all
     by later false e g = later g
 
-terminal_nowhere : (model : Model) (lists : List (List ℕ)) → are_lists model lists ≡ true → (x : ℕ) → is_terminal model x ≡ true → (u w : ℕ) → StandsNowhereElse lists u w x
+terminal_nowhere : (model : Model) (lists : List (List ℕ)) → are_lists model lists ≡ true
+    → (x : ℕ) → is_terminal model x ≡ true → (u w : ℕ) → StandsNowhereElse lists u w x
 terminal_nowhere model lists are x ends u w v _ _ there =
-    clash (is_terminal model x) ends (fails_not (is_terminal model x) (and_right (nat_lt x model.nodes) _ (held_visit model (route lists v) x (route-visits model lists v are) there)))
+    clash (is_terminal model x) ends
+    (fails_not (is_terminal model x) (and_right (nat_lt x model.nodes) _ (held_visit model (route lists v) x (route-visits model lists v are) there)))
 
 module _ (model : Model) (v : ℕ) (low : v < length model.vehicles) where
   start_ends : is_terminal model (vehicle_at model v).start ≡ true
-  start_ends = list_any_at (λ vehicle. (vehicle.start == (vehicle_at model v).start) || (vehicle.end == (vehicle_at model v).start)) model.vehicles v no_vehicle low
+  start_ends =
+      list_any_at (λ vehicle. (vehicle.start == (vehicle_at model v).start) || (vehicle.end == (vehicle_at model v).start)) model.vehicles v no_vehicle low
       (or_left ((vehicle_at model v).start == (vehicle_at model v).start) _ (test_of_eq _ _ refl))
 
   end_ends : is_terminal model (vehicle_at model v).end ≡ true
@@ -160,8 +171,10 @@ module _ (model : Model) (v : ℕ) (low : v < length model.vehicles) where
 
 -- ---- sums along arcs between nodes of a kind
 
-module _ (model : Model) (p q : Penalties) (Meant : ℕ → Type 0) (same : (origin target : ℕ) → Meant origin → Meant target → q origin target ≡ p origin target) (v last : ℕ) where
-  same_weight : (at node : ℕ) → Meant at → Meant node → arc_weight model q (record { vehicle = v; origin = at; target = node }) ≡ arc_weight model p (record { vehicle = v; origin = at; target = node })
+module _ (model : Model) (p q : Penalties) (Meant : ℕ → Type 0)
+    (same : (origin target : ℕ) → Meant origin → Meant target → q origin target ≡ p origin target) (v last : ℕ) where
+  same_weight : (at node : ℕ) → Meant at → Meant node
+      → arc_weight model q (record { vehicle = v; origin = at; target = node }) ≡ arc_weight model p (record { vehicle = v; origin = at; target = node })
   same_weight at node a b = ap (λ n. pos n *ℤ arc_cost model v at node) (same at node a b)
 
   same_from : (at : ℕ) (nodes : List ℕ) → Meant at → Meant last → ((x : ℕ) → IsTrue (holds nodes x) → Meant x)
@@ -171,7 +184,8 @@ module _ (model : Model) (p q : Penalties) (Meant : ℕ → Type 0) (same : (ori
       let next = each node (or_left (node == node) _ (test_of_eq node node refl)) in
       ap₂ (λ x y. x +ℤ y) (same_weight at node here next) (same_from node nodes next ends (λ x h. each x (or_right (x == node) _ h)))
 
-  same_route : (list : List ℕ) → (vehicle_at model v).end ≡ last → Meant (vehicle_at model v).start → Meant last → ((x : ℕ) → IsTrue (holds list x) → Meant x) → route_weight model q v list ≡ route_weight model p v list
+  same_route : (list : List ℕ) → (vehicle_at model v).end ≡ last → Meant (vehicle_at model v).start → Meant last
+      → ((x : ℕ) → IsTrue (holds list x) → Meant x) → route_weight model q v list ≡ route_weight model p v list
   same_route [] is here ends each = refl
   same_route (node ∷ nodes) is here ends each =
       ap (λ l. total_by (arc_weight model q) (arcs_from v (vehicle_at model v).start ((node ∷ nodes) ++ l ∷ []))) is
@@ -183,8 +197,10 @@ module _ (model : Model) (p q : Penalties) (Meant : ℕ → Type 0) (same : (ori
 nothing_less : (x y : ℤ) → x -ℤ x ≡ y -ℤ y
 nothing_less x y = omega (arith, ints)
 
-module _ (model : Model) (well : IsWellFormed model) (lists : List (List ℕ)) (valid : IsTrue (is_valid model lists)) (m : Move) (one : IsTrue (is_move model lists m))
-    (source : ℕ) (stay : (u : ℕ) → u ≢ source → u ≢ second_of m → route (apply model lists m) u ≡ route lists u) (p q : Penalties) (spared : AreSpared lists p q source (second_of m)) where
+module _ (model : Model) (well : IsWellFormed model) (lists : List (List ℕ))
+    (valid : IsTrue (is_valid model lists)) (m : Move) (one : IsTrue (is_move model lists m))
+    (source : ℕ) (stay : (u : ℕ) → u ≢ source → u ≢ second_of m → route (apply model lists m) u ≡ route lists u)
+    (p q : Penalties) (spared : AreSpared lists p q source (second_of m)) where
   abbrev after : List (List ℕ)
   after = apply model lists m
 
@@ -255,12 +271,15 @@ module _ (model : Model) (well : IsWellFormed model) (lists : List (List ℕ)) (
       ∙ makes_less_where model lambda p lists m (cost_change model lists m) (penalised_change model p lists m) refl refl
 
 -- what is known still after a round is refused still
-pub still_refused : (model : Model) → IsWellFormed model → (lambda : Lambda) (p q : Penalties) (lists : List (List ℕ)) → IsTrue (is_valid model lists) → (old new : Memory)
+pub still_refused : (model : Model) → IsWellFormed model
+    → (lambda : Lambda) (p q : Penalties) (lists : List (List ℕ)) → IsTrue (is_valid model lists) → (old new : Memory)
     → ((k : Neighbourhood) (u w : ℕ) → IsTrue (is_known new k u w) → IsTrue (is_known old k u w)) → SparesKnown lists p q new → AreSettled model lists new
     → AreRefused model (makes_less model lambda p) lists old → AreRefused model (makes_less model lambda q) lists new
 still_refused model well lambda p q lists valid old new fewer spares settled refused m one covered =
     let once = few model lists (are-lists model lists valid) in
     let at = has_source model lists once m one in
-    let spared = spares (kind_of m) (first_of m) at.0 (second_of m) (later_source model lists new settled m one covered at.0 at.1) (later_known new (kind_of m) (first_of m) (second_of m) covered) in
-    ap (λ b. is_valid model (apply model lists m) && b) (less_same model well lists valid m one at.0 (others_stay model lists once m one at.0 at.1) p q spared lambda)
+    let spared = spares (kind_of m) (first_of m) at.0 (second_of m) (later_source model lists new settled m one covered at.0 at.1)
+    (later_known new (kind_of m) (first_of m) (second_of m) covered) in
+    ap (λ b. is_valid model (apply model lists m) && b)
+    (less_same model well lists valid m one at.0 (others_stay model lists once m one at.0 at.1) p q spared lambda)
     ∙ refused m one (fewer (kind_of m) (first_of m) (second_of m) covered)

@@ -1,11 +1,13 @@
 -- Sums along the lists of vehicles.
-use Rattle.std.proofs.Common.{◌≡◌, ◌∙◌, ◌⊎◌, inl, inr, ℕ, zero, suc, ◌+◌, ◌-◌, ◌*◌, ◌^◌, ◌<◌, ◌≤◌, List, [], ◌∷◌, ◌++◌, length, take, drop, refl, sym, ap, subst, arith, length-append, append_assoc, to_z, of_z}
+use Rattle.std.proofs.Common.{◌≡◌, ◌∙◌, ◌⊎◌, inl, inr, ℕ, zero, suc, ◌+◌, ◌-◌, ◌*◌, ◌^◌, ◌<◌, ◌≤◌, List, [], ◌∷◌, ◌++◌, length, take, drop, refl, sym, ap}
+use Rattle.std.proofs.Common.{subst, arith, length-append, append_assoc, to_z, of_z}
 use Rattle.std.specs.Int.{w128, int_max}
 use Rattle.std.specs.Prelude.{ℤ, pos, ◌+ℤ◌, ◌-ℤ◌, ◌≤ℤ◌, neg_ℤ, slice_range}
 use Rattle.std.proofs.lemmas.Int.{ints, clamps}
 use Rattle.std.proofs.lemmas.Bool.{cases_lt}
 use Rattle.std.proofs.lemmas.Bool.Decides.{eqb_tells}
-use Rattle.std.proofs.lemmas.List.{drop-append-le, drop-drop, get_or_append_left, get_or_push, length-drop, length-take-le, take-append-drop, take-append-le, take_all}
+use Rattle.std.proofs.lemmas.List.{drop-append-le, drop-drop, get_or_append_left, get_or_push, length-drop, length-take-le, take-append-drop, take-append-le}
+use Rattle.std.proofs.lemmas.List.{take_all}
 use Rattle.std.proofs.Math.Seq.{take-append-add}
 use Rattle.vr_model.specs.tables.Numbers.{number_at, total_by}
 use Rattle.vr_model.specs.tables.WellFormed.{IsIn}
@@ -43,7 +45,8 @@ module _ (f : UsedArc → ℤ) (v node : ℕ) where
           never n h = omega (arith, h)
 
   -- one more stop
-  pub sums-push : (nodes : List ℕ) (next : ℕ) (sums new : List ℤ) (w : ℤ) → AreArcSums f v node nodes sums → w ≡ f (record { vehicle = v; origin = last_of node nodes; target = next })
+  pub sums-push : (nodes : List ℕ) (next : ℕ) (sums new : List ℤ) (w : ℤ) → AreArcSums f v node nodes sums
+      → w ≡ f (record { vehicle = v; origin = last_of node nodes; target = next })
       → new ≡ sums ++ (number_at sums (length sums - 1) +ℤ w) ∷ [] → AreArcSums f v node (nodes ++ next ∷ []) new
   sums-push nodes next sums new w are here is =
       subst (AreArcSums f v node (nodes ++ next ∷ [])) (sym is) (record {
@@ -64,11 +67,15 @@ module _ (f : UsedArc → ℤ) (v node : ℕ) where
       value =
           let many = are.many in
           let place : length sums - 1 ≡ length nodes = omega (arith, many) in
-          let before : number_at sums (length sums - 1) ≡ along f v node nodes = ap (number_at sums) place ∙ (are.each (length nodes) (omega arith) ∙ ap (along f v node) (take_all (length nodes) nodes (omega arith))) in
-          let sum : along f v node (nodes ++ next ∷ []) ≡ along f v node nodes +ℤ (f (record { vehicle = v; origin = last_of node nodes; target = next }) +ℤ pos 0) = along_split f v node nodes (next ∷ []) in
+          let before : number_at sums (length sums - 1) ≡ along f v node nodes = ap (number_at sums) place
+          ∙ (are.each (length nodes) (omega arith) ∙ ap (along f v node) (take_all (length nodes) nodes (omega arith))) in
+          let sum : along f v node (nodes ++ next ∷ [])
+          ≡ along f v node nodes +ℤ (f (record { vehicle = v; origin = last_of node nodes; target = next }) +ℤ pos 0) = along_split f
+          v node nodes (next ∷ []) in
           omega (arith, ints, sum, here, before)
 
-      go : (k : ℕ) → k ≤ length (nodes ++ next ∷ []) → (k < length sums) ⊎ (length sums ≤ k) → number_at (sums ++ last ∷ []) k ≡ along f v node (take k (nodes ++ next ∷ []))
+      go : (k : ℕ) → k ≤ length (nodes ++ next ∷ []) → (k < length sums) ⊎ (length sums ≤ k)
+          → number_at (sums ++ last ∷ []) k ≡ along f v node (take k (nodes ++ next ∷ []))
       go k under (inl low) =
           let many = are.many in
           let few : k ≤ length nodes = omega (arith, low, many) in
@@ -90,7 +97,8 @@ module _ (f : UsedArc → ℤ) (v node : ℕ) where
       omega (arith, ints, x, y, parts)
 
 -- one sum more is in range
-pub range-push : (sums : List ℤ) (w : ℤ) → HaveWideRange sums → 1 ≤ length sums → IsIn (pos 0) (pos (2 ^ 70)) w → HaveWideRange (sums ++ (number_at sums (length sums - 1) +ℤ w) ∷ [])
+pub range-push : (sums : List ℤ) (w : ℤ) → HaveWideRange sums → 1 ≤ length sums
+    → IsIn (pos 0) (pos (2 ^ 70)) w → HaveWideRange (sums ++ (number_at sums (length sums - 1) +ℤ w) ∷ [])
 range-push sums w range some in_range k under = go (cases_lt k (length sums))
   where
     last : ℤ
@@ -113,7 +121,8 @@ range-push sums w range some in_range k under = go (cases_lt k (length sums))
     go (inr there) =
         let all = length-append sums (last ∷ []) in
         let at : length sums ≡ k = omega (arith, there, under, all) in
-        subst (IsIn (pos 0) (pos (k * 2 ^ 70))) (sym (get_or_push sums last (pos 0) k at)) (subst (λ n. IsIn (pos 0) (pos (n * 2 ^ 70)) last) at (record { at_least = low; at_most = high }))
+        subst (IsIn (pos 0) (pos (k * 2 ^ 70))) (sym (get_or_push sums last (pos 0) k at))
+        (subst (λ n. IsIn (pos 0) (pos (n * 2 ^ 70)) last) at (record { at_least = low; at_most = high }))
 
 -- ---- in 128 bits
 
@@ -141,11 +150,14 @@ read-more x w a hx hw few =
     omega (arith, ints, x_low, x_top, w_low, w_high)
 
 -- a stretch of a list, as one of the list and the end behind it
-pub stretch-line_nodes : (front behind end next : ℕ) (list others : List ℕ) → front ≤ behind → behind ≤ length list → drop behind list ++ end ∷ [] ≡ next ∷ others
+pub stretch-line_nodes : (front behind end next : ℕ) (list others : List ℕ)
+    → front ≤ behind → behind ≤ length list → drop behind list ++ end ∷ [] ≡ next ∷ others
     → slice_range (list ++ end ∷ []) front (behind + 1) ≡ slice_range list front behind ++ next ∷ []
 stretch-line_nodes front behind end next list others order high first =
     ap (λ n. take n (drop front (list ++ end ∷ []))) count
-    ∙ (ap (take (length middle + 1)) (drop-append-le front list (end ∷ []) (omega (arith, order, high)) ∙ (ap (λ xs. xs ++ end ∷ []) parts ∙ (append_assoc middle (drop behind list) (end ∷ []) ∙ ap (λ xs. middle ++ xs) first)))
+    ∙ (ap (take (length middle + 1))
+    (drop-append-le front list (end ∷ []) (omega (arith, order, high))
+    ∙ (ap (λ xs. xs ++ end ∷ []) parts ∙ (append_assoc middle (drop behind list) (end ∷ []) ∙ ap (λ xs. middle ++ xs) first)))
     ∙ take-append-add middle (next ∷ others) 1)
   where
     middle : List ℕ
@@ -163,14 +175,16 @@ stretch-line_nodes front behind end next list others order high first =
         sym (take-append-drop (behind - front) (drop front list)) ∙ ap (λ xs. middle ++ xs) (drop-drop (behind - front) front list ∙ ap (λ n. drop n list) sum)
 
 -- one sum is above another by no more than all arcs add
-pub apart-high : (z x y : ℤ) (a b : ℕ) → z ≡ x -ℤ y → IsIn (pos 0) (pos (a * 2 ^ 70)) x → IsIn (pos 0) (pos (b * 2 ^ 70)) y → a ≤ 1001 → z ≤ℤ pos (1001 * 2 ^ 70)
+pub apart-high : (z x y : ℤ) (a b : ℕ) → z ≡ x -ℤ y → IsIn (pos 0) (pos (a * 2 ^ 70)) x
+    → IsIn (pos 0) (pos (b * 2 ^ 70)) y → a ≤ 1001 → z ≤ℤ pos (1001 * 2 ^ 70)
 apart-high z x y a b is hx hy few =
     let x_high = hx.at_most in
     let y_low = hy.at_least in
     let x_top : x ≤ℤ pos (1001 * 2 ^ 70) = omega (arith, ints, x_high, few) in
     omega (arith, ints, is, x_top, y_low)
 
-pub apart-low : (z x y : ℤ) (a b : ℕ) → z ≡ x -ℤ y → IsIn (pos 0) (pos (a * 2 ^ 70)) x → IsIn (pos 0) (pos (b * 2 ^ 70)) y → b ≤ 1001 → neg_ℤ (pos (1001 * 2 ^ 70)) ≤ℤ z
+pub apart-low : (z x y : ℤ) (a b : ℕ) → z ≡ x -ℤ y → IsIn (pos 0) (pos (a * 2 ^ 70)) x
+    → IsIn (pos 0) (pos (b * 2 ^ 70)) y → b ≤ 1001 → neg_ℤ (pos (1001 * 2 ^ 70)) ≤ℤ z
 apart-low z x y a b is hx hy few =
     let x_low = hx.at_least in
     let y_high = hy.at_most in
@@ -186,7 +200,8 @@ pub record IsMostSoFar (sums : List ℤ) (arcs n : ℕ) (most : ℤ) : Type 0 wh
 pub most-begun : (sums : List ℤ) (arcs : ℕ) → IsMostSoFar sums arcs 0 (pos 0)
 most-begun sums arcs = record { low = omega (arith, ints); high = omega (arith, ints); all = λ k low. absurd (omega (arith, low)) }
 
-pub most-more : (sums : List ℤ) (arcs n : ℕ) (most next greater : ℤ) → IsMostSoFar sums arcs n most → next ≡ number_at sums (n + arcs) -ℤ number_at sums n → next ≤ℤ pos (1001 * 2 ^ 70) → greater ≡ int_max most next → IsMostSoFar sums arcs (n + 1) greater
+pub most-more : (sums : List ℤ) (arcs n : ℕ) (most next greater : ℤ) → IsMostSoFar sums arcs n most → next ≡ number_at sums (n + arcs) -ℤ number_at sums n
+    → next ≤ℤ pos (1001 * 2 ^ 70) → greater ≡ int_max most next → IsMostSoFar sums arcs (n + 1) greater
 most-more sums arcs n most next greater so_far is high e =
     let was = so_far.low in
     let top = so_far.high in

@@ -44,7 +44,8 @@ module _ (g : ℕ → ℤ) where
     | inr apart ↦ (let stays = term_stays x n apart.1 in omega (arith, ints, stays))
   ]
 
-module _ (g h : ℕ → ℤ) (most : ℕ) (g_low : (u : ℕ) → u < most → pos 0 ≤ℤ g u) (h_low : (u : ℕ) → u < most → pos 0 ≤ℤ h u) (v w : ℕ) (same : (u : ℕ) → u ≢ v → u ≢ w → g u ≡ h u) where
+module _ (g h : ℕ → ℤ) (most : ℕ) (g_low : (u : ℕ) → u < most → pos 0 ≤ℤ g u)
+    (h_low : (u : ℕ) → u < most → pos 0 ≤ℤ h u) (v w : ℕ) (same : (u : ℕ) → u ≢ v → u ≢ w → g u ≡ h u) where
   -- one sum is above the other by no more than the two terms
   pub two_terms : (n : ℕ) → n ≤ most → total_by g (below n) ≤ℤ (total_by h (below n) +ℤ (term g v n +ℤ term g w n))
   two_terms zero few =

@@ -35,7 +35,8 @@ pub last_taken : (x : ℕ) (nodes : List ℕ) (k : ℕ) → k < length nodes →
 last_taken x nodes k low = ap (last_of x) (take_more nodes k 0 low) ∙ last_behind x (get_or nodes k 0) (take k nodes)
 
 -- the next piece, and the others
-pub pieces_onward : (lists : List (List ℕ)) (pieces : List Piece) (i : ℕ) (d : Piece) → i < length pieces → joined lists (drop i pieces) ≡ nodes_of lists (get_or pieces i d) ++ joined lists (drop (i + 1) pieces)
+pub pieces_onward : (lists : List (List ℕ)) (pieces : List Piece) (i : ℕ) (d : Piece) → i < length pieces
+    → joined lists (drop i pieces) ≡ nodes_of lists (get_or pieces i d) ++ joined lists (drop (i + 1) pieces)
 pieces_onward lists pieces i d low = ap (joined lists) (drop_more pieces i d low)
 
 module _ (model : Model) (p : Penalties) (v : ℕ) where
@@ -47,7 +48,8 @@ module _ (model : Model) (p : Penalties) (v : ℕ) where
   -- from the end of a list to its front
   pub walked_back : (walk : Walk) (nodes : List ℕ) (k d : ℕ) → k < length nodes
       → walked model p v walk (reverse (take (k + 1) nodes)) ≡ walked model p v (stepped model p v walk (get_or nodes k d)) (reverse (take k nodes))
-  walked_back walk nodes k d low = ap (λ xs. walked model p v walk (reverse xs)) (take_more nodes k d low) ∙ ap (walked model p v walk) (reverse-append (take k nodes) (get_or nodes k d ∷ []))
+  walked_back walk nodes k d low = ap (λ xs. walked model p v walk (reverse xs)) (take_more nodes k d low)
+      ∙ ap (walked model p v walk) (reverse-append (take k nodes) (get_or nodes k d ∷ []))
 
   pub arcs_walked : (walk : Walk) (nodes : List ℕ) → (walked model p v walk nodes).arcs ≡ walk.arcs + length nodes
   arcs_walked walk [] = omega arith
@@ -62,13 +64,16 @@ module _ (model : Model) (p : Penalties) (v : ℕ) where
   total_walked walk (x ∷ xs) = let h = total_walked (stepped model p v walk x) xs in omega (arith, ints, h)
 
   -- the total of a walk from a node through nodes to a last one
-  pub total_to : (from next : ℕ) (nodes : List ℕ) → (stepped model p v (walked model p v (walk_begun from) nodes) next).total ≡ along (arc_weight model p) v from (nodes ++ next ∷ [])
-  total_to from next nodes = ap (λ walk. walk.total) (sym (walked_more (walk_begun from) nodes (next ∷ []))) ∙ (total_walked (walk_begun from) (nodes ++ next ∷ []) ∙ nothing (along (arc_weight model p) v from (nodes ++ next ∷ [])))
+  pub total_to : (from next : ℕ) (nodes : List ℕ)
+      → (stepped model p v (walked model p v (walk_begun from) nodes) next).total ≡ along (arc_weight model p) v from (nodes ++ next ∷ [])
+  total_to from next nodes = ap (λ walk. walk.total) (sym (walked_more (walk_begun from) nodes (next ∷ [])))
+      ∙ (total_walked (walk_begun from) (nodes ++ next ∷ []) ∙ nothing (along (arc_weight model p) v from (nodes ++ next ∷ [])))
     where
       nothing : (x : ℤ) → pos 0 +ℤ x ≡ x
       nothing x = omega (arith, ints)
 
-  module _ (from next : ℕ) (nodes : List ℕ) (walk last : Walk) (goes : walk ≡ walked model p v (walk_begun from) nodes) (ends : last ≡ stepped model p v walk next) where
+  module _ (from next : ℕ) (nodes : List ℕ) (walk last : Walk)
+      (goes : walk ≡ walked model p v (walk_begun from) nodes) (ends : last ≡ stepped model p v walk next) where
     pub stretch_arcs : walk.arcs ≡ length nodes
     stretch_arcs = let arcs = ap (λ w. w.arcs) goes ∙ arcs_walked (walk_begun from) nodes in omega (arith, arcs)
 

@@ -48,9 +48,11 @@ not_below m n one e = Prim.grind (arith, ints, one, e)
 some_product : (m n : ℕ) → 1 ≤ suc m * suc n
 some_product m n = omega arith
 
-trans_ints : (a b c : ℤ) (x y z : ℕ) → int_le (a *ℤ pos (suc y)) (b *ℤ pos (suc x)) ≡ true → int_le (b *ℤ pos (suc z)) (c *ℤ pos (suc y)) ≡ true → int_le (a *ℤ pos (suc z)) (c *ℤ pos (suc x)) ≡ true
+trans_ints : (a b c : ℤ) (x y z : ℕ) → int_le (a *ℤ pos (suc y)) (b *ℤ pos (suc x)) ≡ true
+    → int_le (b *ℤ pos (suc z)) (c *ℤ pos (suc y)) ≡ true → int_le (a *ℤ pos (suc z)) (c *ℤ pos (suc x)) ≡ true
 trans_ints (pos a) (pos b) (pos c) x y z first second =
-    to_test (a * suc z) (c * suc x) (worth_trans a b c (suc x) (suc y) (suc z) (omega arith) (of_test (a * suc y) (b * suc x) first) (of_test (b * suc z) (c * suc y) second))
+    to_test (a * suc z) (c * suc x)
+    (worth_trans a b c (suc x) (suc y) (suc z) (omega arith) (of_test (a * suc y) (b * suc x) first) (of_test (b * suc z) (c * suc y) second))
 trans_ints (pos a) (pos b) (negsuc c) x y z first second = no (not_below (b * suc z) (suc c * suc y) (some_product c y) second)
 trans_ints (pos a) (negsuc b) c x y z first second = no (not_below (a * suc y) (suc b * suc x) (some_product b x) first)
 trans_ints (negsuc a) b (pos c) x y z first second = below (suc a * suc z) (c * suc x)
@@ -91,9 +93,11 @@ pub above_of : (a b : Worth) → int_lt (pos 0) a.cost ≡ true → is_no_more a
 above_of a b some e = above_ints a.cost b.cost a.penalty b.penalty some e
 
 -- what is no more than a worth above 0 is less than it once it has one penalty more
-beaten_ints : (a b : ℤ) (x y : ℕ) → int_lt (pos 0) b ≡ true → int_le (a *ℤ pos (suc y)) (b *ℤ pos (suc x)) ≡ true → int_le (b *ℤ pos (suc (suc x))) (a *ℤ pos (suc y)) ≡ false
+beaten_ints : (a b : ℤ) (x y : ℕ) → int_lt (pos 0) b ≡ true → int_le (a *ℤ pos (suc y)) (b *ℤ pos (suc x)) ≡ true
+    → int_le (b *ℤ pos (suc (suc x))) (a *ℤ pos (suc y)) ≡ false
 beaten_ints a (pos zero) x y some e = no some
-beaten_ints (pos a) (pos (suc b)) x y some e = not_test (suc b * suc (suc x)) (a * suc y) (let low = of_test (a * suc y) (suc b * suc x) e in omega (arith, low))
+beaten_ints (pos a) (pos (suc b)) x y some e =
+    not_test (suc b * suc (suc x)) (a * suc y) (let low = of_test (a * suc y) (suc b * suc x) e in omega (arith, low))
   where
     not_test : (m n : ℕ) → n < m → int_le (pos m) (pos n) ≡ false
     not_test m n h = Prim.grind (arith, ints, h)
@@ -103,7 +107,8 @@ beaten_ints (negsuc a) (pos (suc b)) x y some e = not_below_test (suc b * suc (s
     not_below_test m n h = Prim.grind (arith, ints, h)
 beaten_ints a (negsuc b) x y some e = no some
 
-pub beaten : (worth best : Worth) → int_lt (pos 0) best.cost ≡ true → is_no_more worth best ≡ true → is_no_more best (record { cost = worth.cost; penalty = suc worth.penalty }) ≡ false
+pub beaten : (worth best : Worth) → int_lt (pos 0) best.cost ≡ true → is_no_more worth best ≡ true
+    → is_no_more best (record { cost = worth.cost; penalty = suc worth.penalty }) ≡ false
 beaten worth best some e = beaten_ints worth.cost best.cost worth.penalty best.penalty some e
 
 -- ---- the greatest of a list
@@ -127,25 +132,32 @@ module _ (worth : UsedArc → Worth) where
   greatest_more best (x ∷ xs) ys = greatest_more (greater best (worth x)) xs ys
 
   -- no arc is worth more than x exactly where the greatest is not
-  none_is_more : (x best : Worth) (arcs : List UsedArc) → (list_all (λ arc. is_no_more (worth arc) x) arcs && is_no_more best x) ≡ is_no_more (greatest_worth worth best arcs) x
+  none_is_more : (x best : Worth) (arcs : List UsedArc)
+      → (list_all (λ arc. is_no_more (worth arc) x) arcs && is_no_more best x) ≡ is_no_more (greatest_worth worth best arcs) x
   none_is_more x best [] = refl
   none_is_more x best (arc ∷ arcs) = go (is_no_more (worth arc) best) refl (none_is_more x best arcs) (none_is_more x (worth arc) arcs)
     where
       go : (b : Bool) → is_no_more (worth arc) best ≡ b
           → (list_all (λ arc. is_no_more (worth arc) x) arcs && is_no_more best x) ≡ is_no_more (greatest_worth worth best arcs) x
           → (list_all (λ arc. is_no_more (worth arc) x) arcs && is_no_more (worth arc) x) ≡ is_no_more (greatest_worth worth (worth arc) arcs) x
-          → ((is_no_more (worth arc) x && list_all (λ arc. is_no_more (worth arc) x) arcs) && is_no_more best x) ≡ is_no_more (greatest_worth worth (cond b best (worth arc)) arcs) x
-      go true e h k = all_but (is_no_more (worth arc) x) (list_all (λ arc. is_no_more (worth arc) x) arcs) (is_no_more best x) (λ g. no_more_trans (worth arc) best x e g) ∙ h
-      go false e h k = instead (is_no_more (worth arc) x) (list_all (λ arc. is_no_more (worth arc) x) arcs) (is_no_more best x) (λ g. no_more_trans best (worth arc) x (no_more_total (worth arc) best e) g) ∙ k
+          → ((is_no_more (worth arc) x && list_all (λ arc. is_no_more (worth arc) x) arcs) && is_no_more best x)
+          ≡ is_no_more (greatest_worth worth (cond b best (worth arc)) arcs) x
+      go true e h k =
+          all_but (is_no_more (worth arc) x) (list_all (λ arc. is_no_more (worth arc) x) arcs) (is_no_more best x) (λ g. no_more_trans (worth arc) best x e g)
+          ∙ h
+      go false e h k = instead (is_no_more (worth arc) x) (list_all (λ arc. is_no_more (worth arc) x) arcs)
+          (is_no_more best x) (λ g. no_more_trans best (worth arc) x (no_more_total (worth arc) best e) g) ∙ k
 
   -- where some arc has a cost, what no arc is worth more than has one too
-  some_cost : (x : Worth) (arcs : List UsedArc) → list_any (λ arc. int_lt (pos 0) (worth arc).cost) arcs ≡ true → list_all (λ arc. is_no_more (worth arc) x) arcs ≡ true → int_lt (pos 0) x.cost ≡ true
+  some_cost : (x : Worth) (arcs : List UsedArc) → list_any (λ arc. int_lt (pos 0) (worth arc).cost) arcs ≡ true
+      → list_all (λ arc. is_no_more (worth arc) x) arcs ≡ true → int_lt (pos 0) x.cost ≡ true
   some_cost x [] some all = no some
   some_cost x (arc ∷ arcs) some all =
       let parts = both (is_no_more (worth arc) x) (list_all (λ arc. is_no_more (worth arc) x) arcs) all in
       go (int_lt (pos 0) (worth arc).cost) refl parts.0 some (λ h. some_cost x arcs h parts.1)
     where
-      go : (b : Bool) → int_lt (pos 0) (worth arc).cost ≡ b → is_no_more (worth arc) x ≡ true → (b || list_any (λ arc. int_lt (pos 0) (worth arc).cost) arcs) ≡ true
+      go : (b : Bool) → int_lt (pos 0) (worth arc).cost ≡ b → is_no_more (worth arc) x ≡ true
+          → (b || list_any (λ arc. int_lt (pos 0) (worth arc).cost) arcs) ≡ true
           → (list_any (λ arc. int_lt (pos 0) (worth arc).cost) arcs ≡ true → int_lt (pos 0) x.cost ≡ true) → int_lt (pos 0) x.cost ≡ true
       go true e low h again = above_of (worth arc) x e low
       go false e low h again = again h

@@ -32,7 +32,8 @@ kept_full items after piece taken n old_room new_room lost inside full same more
     let len : length (take n piece) ≡ n = length-take-le n piece (omega arith) in
     let before : length (take taken items) ≡ taken = length-take-le taken items inside in
     let late : nat_lt old_room (length (take taken items) + length piece) ≡ true = grind (arith, nat_tests) in
-    let lost_now : (lost || nat_lt old_room (length (take taken items) + length piece)) ≡ true = rw late (elim lost as (λ b. (b || true) ≡ true) [ true ↦ refl | false ↦ refl ]) in
+    let lost_now : (lost || nat_lt old_room (length (take taken items) + length piece)) ≡ true = rw late
+    (elim lost as (λ b. (b || true) ≡ true) [ true ↦ refl | false ↦ refl ]) in
     let bytes : take old_room (take taken items ++ piece) ≡ take taken items ++ take n piece =
     rw (← full) (let e = take-append-add (take taken items) piece n in rw before at e) in
     let written_n = rw len at written in

@@ -1,5 +1,6 @@
 -- A line feed behind a text changes nothing of what JSON reads in it.
-use Rattle.std.proofs.Common.{◌≡◌, ℕ, suc, ◌+◌, ◌-◌, ◌≤◌, List, [], ◌∷◌, ◌++◌, Bool, true, false, cond, ◌&&◌, ◌||◌, ◌==◌, nat_eq, nat_lt, length, length-append, take, drop, Option, Some, None, option_map, refl, ap, ap₂, ◌∙◌, arith}
+use Rattle.std.proofs.Common.{◌≡◌, ℕ, suc, ◌+◌, ◌-◌, ◌≤◌, List, [], ◌∷◌, ◌++◌, Bool, true, false, cond, ◌&&◌, ◌||◌, ◌==◌, nat_eq, nat_lt, length, length-append}
+use Rattle.std.proofs.Common.{take, drop, Option, Some, None, option_map, refl, ap, ap₂, ◌∙◌, arith}
 use Rattle.std.specs.Prelude.{option_and_then}
 use Rattle.std.specs.List.{prefix_len, starts_with}
 use Rattle.std.specs.Cmp.Lexicographic.{pointwise}
@@ -7,9 +8,12 @@ use Rattle.std.specs.Char.{is_ascii_digit, is_digit, encode_utf8}
 use Rattle.std.proofs.lemmas.List.{drop-append-le, take-append-le}
 use Rattle.json.specs.Ascii as ascii
 use Rattle.json.specs.Token.{Token, number, boolean, null, bad}
-use Rattle.json.specs.Text.{Within, plain, after_backslash, after_u, after_high, content, code_unit, short_escape, prepend, is_high_surrogate, is_low_surrogate, surrogate_pair}
-use Rattle.json.specs.Word.{ends_word, after_digits, after_minus, after_sign, after_whole, after_fraction, after_exponent, after_number, number_before, literal, word}
-use Rattle.json.specs.Lex.{Lexeme, Class, quote, backslash, operator, space, other, class, Mode, between, in_word, in_string, in_escape, token, string_token, operator_lexeme, lex_byte, lex, punctuate, fresh}
+use Rattle.json.specs.Text.{Within, plain, after_backslash, after_u, after_high, content, code_unit, short_escape, prepend, is_high_surrogate, is_low_surrogate}
+use Rattle.json.specs.Text.{surrogate_pair}
+use Rattle.json.specs.Word.{ends_word, after_digits, after_minus, after_sign, after_whole, after_fraction, after_exponent, after_number, number_before, literal}
+use Rattle.json.specs.Word.{word}
+use Rattle.json.specs.Lex.{Lexeme, Class, quote, backslash, operator, space, other, class, Mode, between, in_word, in_string, in_escape, token, string_token}
+use Rattle.json.specs.Lex.{operator_lexeme, lex_byte, lex, punctuate, fresh}
 use Rattle.json.specs.Json as json
 use Rattle.serde_json.specs.Read.{read, of_json, max_depth}
 
@@ -61,11 +65,13 @@ rest_fed false o p = refl
 
 after_whole-fed : (t : List ℕ) → after_whole (t ++ line_feed) ≡ fed (after_whole t)
 after_whole-fed [] = refl
-after_whole-fed (x ∷ t) = ap (cond (x == ascii.zero) (Some (t ++ line_feed))) (after_digits-fed (x ∷ t)) ∙ rest_fed (x == ascii.zero) (Some t) (after_digits (x ∷ t))
+after_whole-fed (x ∷ t) = ap (cond (x == ascii.zero) (Some (t ++ line_feed))) (after_digits-fed (x ∷ t))
+    ∙ rest_fed (x == ascii.zero) (Some t) (after_digits (x ∷ t))
 
 after_fraction-fed : (t : List ℕ) → after_fraction (t ++ line_feed) ≡ fed (after_fraction t)
 after_fraction-fed [] = refl
-after_fraction-fed (x ∷ t) = ap (λ o. cond (x == ascii.dot) o (Some (x ∷ t ++ line_feed))) (after_digits-fed t) ∙ rest_fed (x == ascii.dot) (after_digits t) (Some (x ∷ t))
+after_fraction-fed (x ∷ t) = ap (λ o. cond (x == ascii.dot) o (Some (x ∷ t ++ line_feed))) (after_digits-fed t)
+    ∙ rest_fed (x == ascii.dot) (after_digits t) (Some (x ∷ t))
 
 after_exponent-fed : (t : List ℕ) → after_exponent (t ++ line_feed) ≡ fed (after_exponent t)
 after_exponent-fed [] = refl
@@ -74,7 +80,8 @@ after_exponent-fed (x ∷ t) =
     ap (λ o. cond marked o (Some (x ∷ t ++ line_feed))) (ap after_digits (after_sign-fed t) ∙ after_digits-fed (after_sign t))
     ∙ rest_fed marked (after_digits (after_sign t)) (Some (x ∷ t))
 
-then_fed : (f : List ℕ → Option (List ℕ)) → ((t : List ℕ) → f (t ++ line_feed) ≡ fed (f t)) → (o : Option (List ℕ)) → option_and_then f (fed o) ≡ fed (option_and_then f o)
+then_fed : (f : List ℕ → Option (List ℕ)) → ((t : List ℕ) → f (t ++ line_feed) ≡ fed (f t))
+    → (o : Option (List ℕ)) → option_and_then f (fed o) ≡ fed (option_and_then f o)
 then_fed f h None = refl
 then_fed f h (Some t) = h t
 
@@ -121,7 +128,8 @@ other_bytes false p h = h
 
 stands-fed : (name t : List ℕ) → no_line_feed name ≡ true → stands name (t ++ line_feed) ≡ stands name t
 stands-fed [] t h = ends_word-fed t
-stands-fed (n ∷ name) [] h = ap (λ b. (b && pointwise nat_eq name (take (length name) [])) && ends_word (drop (length name) [])) (other_byte n (nat_eq n 10) (no_line_feed name) refl h)
+stands-fed (n ∷ name) [] h =
+    ap (λ b. (b && pointwise nat_eq name (take (length name) [])) && ends_word (drop (length name) [])) (other_byte n (nat_eq n 10) (no_line_feed name) refl h)
 stands-fed (n ∷ name) (x ∷ t) h = both (nat_eq n x) _ _ _ _ (stands-fed name t (other_bytes (nat_eq n 10) (no_line_feed name) h))
 
 literal-fed : (name : List ℕ) (k : Token) (t : List ℕ) → no_line_feed name ≡ true → literal name k (t ++ line_feed) ≡ literal name k t
@@ -157,7 +165,8 @@ mutual
   content-fed : (w : Within) (t : List ℕ) → content w (t ++ line_feed) ≡ content w t
   content-fed plain [] = refl
   content-fed plain (x ∷ t) =
-      ap₂ (λ a b. cond (x == ascii.quote) (Some []) (cond (x == ascii.backslash) a (cond (nat_lt x ascii.space) None (prepend (x ∷ []) b)))) (content-fed after_backslash t) (content-fed plain t)
+      ap₂ (λ a b. cond (x == ascii.quote) (Some []) (cond (x == ascii.backslash) a (cond (nat_lt x ascii.space) None (prepend (x ∷ []) b))))
+      (content-fed after_backslash t) (content-fed plain t)
   content-fed after_backslash [] = refl
   content-fed after_backslash (x ∷ t) =
       ap₂ (λ a b. cond (x == ascii.lower_u) a (option_and_then (λ c. prepend (c ∷ []) b) (short_escape x))) (content-fed after_u t) (content-fed plain t)
@@ -165,7 +174,9 @@ mutual
   content-fed after_u (a ∷ []) = refl
   content-fed after_u (a ∷ b ∷ []) = refl
   content-fed after_u (a ∷ b ∷ c ∷ []) =
-      ap (option_and_then (λ u. cond (is_high_surrogate u) (content (after_high u) []) (cond (is_low_surrogate u) None (prepend (encode_utf8 u) (content plain []))))) (code_unit-fed a b c)
+      ap (option_and_then
+      (λ u. cond (is_high_surrogate u) (content (after_high u) []) (cond (is_low_surrogate u) None (prepend (encode_utf8 u) (content plain [])))))
+      (code_unit-fed a b c)
   content-fed after_u (a ∷ b ∷ c ∷ d ∷ t) =
       ap (λ f. option_and_then f (code_unit a b c d))
       (λ i u. cond (is_high_surrogate u) (content-fed (after_high u) t i) (cond (is_low_surrogate u) None (prepend (encode_utf8 u) (content-fed plain t i))))
@@ -175,14 +186,17 @@ mutual
   content-fed (after_high h) (s ∷ u ∷ a ∷ []) = refl
   content-fed (after_high h) (s ∷ u ∷ a ∷ b ∷ []) = refl
   content-fed (after_high h) (s ∷ u ∷ a ∷ b ∷ c ∷ []) =
-      ap (λ o. cond ((s == ascii.backslash) && (u == ascii.lower_u)) (option_and_then (λ l. cond (is_low_surrogate l) (prepend (encode_utf8 (surrogate_pair h l)) (content plain [])) None) o) None) (code_unit-fed a b c)
+      ap (λ o. cond ((s == ascii.backslash) && (u == ascii.lower_u))
+      (option_and_then (λ l. cond (is_low_surrogate l) (prepend (encode_utf8 (surrogate_pair h l)) (content plain [])) None) o) None) (code_unit-fed a b c)
       ∙ same_none ((s == ascii.backslash) && (u == ascii.lower_u))
   content-fed (after_high h) (s ∷ u ∷ a ∷ b ∷ c ∷ d ∷ t) =
-      ap (λ o. cond ((s == ascii.backslash) && (u == ascii.lower_u)) (option_and_then (λ l. cond (is_low_surrogate l) (prepend (encode_utf8 (surrogate_pair h l)) o) None) (code_unit a b c d)) None) (content-fed plain t)
+      ap (λ o. cond ((s == ascii.backslash) && (u == ascii.lower_u))
+      (option_and_then (λ l. cond (is_low_surrogate l) (prepend (encode_utf8 (surrogate_pair h l)) o) None) (code_unit a b c d)) None) (content-fed plain t)
 
 -- ---- lexemes and tokens
 
-lex_byte-fed : (m : Mode) (c : Class) (x : ℕ) (t : List ℕ) (k l : Mode → List Lexeme) → ((n : Mode) → k n ≡ l n) → lex_byte m c x (t ++ line_feed) k ≡ lex_byte m c x t l
+lex_byte-fed : (m : Mode) (c : Class) (x : ℕ) (t : List ℕ) (k l : Mode → List Lexeme)
+    → ((n : Mode) → k n ≡ l n) → lex_byte m c x (t ++ line_feed) k ≡ lex_byte m c x t l
 lex_byte-fed between quote x t k l h = ap₂ (λ o r. token (string_token o) ∷ r) (content-fed plain t) (h in_string)
 lex_byte-fed between backslash x t k l h = ap (λ r. token bad ∷ r) (h in_word)
 lex_byte-fed between operator x t k l h = ap (λ r. operator_lexeme x ∷ r) (h between)

@@ -1,5 +1,6 @@
 -- The entries of an array, and what is read of them.
-use Rattle.std.proofs.Common.{◌≡◌, ℕ, suc, ◌+◌, ◌<◌, ◌≤◌, get_or, drop, Bool, true, false, not, cond, ◌||◌, ltb, List, [], ◌∷◌, length, map, position, find, Option, Some, None, option_map, String, Global, string_bytes, Bor, refl, sym, ap, ap₂, ◌∙◌}
+use Rattle.std.proofs.Common.{◌≡◌, ℕ, suc, ◌+◌, ◌<◌, ◌≤◌, get_or, drop, Bool, true, false, not, cond, ◌||◌, ltb, List, [], ◌∷◌, length, map, position, find}
+use Rattle.std.proofs.Common.{Option, Some, None, option_map, String, Global, string_bytes, Bor, refl, sym, ap, ap₂, ◌∙◌}
 use Rattle.std.specs.List.{list_any, position_or_len}
 use Rattle.std.proofs.lemmas.List.{length-map, at_drop_more, at_drop_all}
 use Rattle.serde_json.specs.View.{view, items_view, members_view}
@@ -27,7 +28,8 @@ position_or_len-map f p (x ∷ xs) = ap (λ n. cond (not (p (f x))) (1 + n) 0) (
 pub position-map : {A B : Type 0} (f : A → B) (p : B → Bool) (xs : List A) → position p (map f xs) ≡ position (λ x. p (f x)) xs
 position-map f p xs = ap₂ (λ n m. cond (ltb n m) (Some n) None) (position_or_len-map f p xs) (length-map xs f)
 
-found-map : {A B : Type 0} (f : A → B) (x : A) (b : Bool) (r : Option B) (o : Option A) → r ≡ option_map f o → cond b (Some (f x)) r ≡ option_map f (cond b (Some x) o)
+found-map : {A B : Type 0} (f : A → B) (x : A) (b : Bool) (r : Option B) (o : Option A)
+    → r ≡ option_map f o → cond b (Some (f x)) r ≡ option_map f (cond b (Some x) o)
 found-map f x true r o e = refl
 found-map f x false r o e = e
 
@@ -40,7 +42,8 @@ keys_of-members_view [] = refl
 keys_of-members_view (e ∷ es) = ap (λ ks. string_bytes e.0 ∷ ks) (keys_of-members_view es)
 
 -- the first key that passes, in an object's map and in its members
-pub found_key : (p : List ℕ → Bool) (es : List (String Global × Value)) → option_map string_bytes (find (λ key. p (string_bytes key)) (map (λ e. e.0) es)) ≡ find p (member_keys (members_view es))
+pub found_key : (p : List ℕ → Bool) (es : List (String Global × Value))
+    → option_map string_bytes (find (λ key. p (string_bytes key)) (map (λ e. e.0) es)) ≡ find p (member_keys (members_view es))
 found_key p es = sym (find-map string_bytes p (map (λ e. e.0) es)) ∙ ap (find p) (sym (keys_of-members_view es))
 
 pub shown_key : (o : Option (Bor (String Global))) → option_map (λ key. string_bytes key.now) o ≡ option_map string_bytes (option_map (λ key. key.now) o)

@@ -1,5 +1,6 @@
 -- What is known of the value that a reading gives, by the form of the reader.
-use Rattle.std.proofs.Common.{◌≡◌, ℕ, ◌+◌, ◌<◌, ◌≤◌, Bool, true, false, ◌&&◌, List, [], ◌∷◌, ◌++◌, length, replicate, Option, Some, None, Result, Ok, Err, IfOk, refl, subst, arith, length-append}
+use Rattle.std.proofs.Common.{◌≡◌, ℕ, ◌+◌, ◌<◌, ◌≤◌, Bool, true, false, ◌&&◌, List, [], ◌∷◌, ◌++◌, length, replicate, Option, Some, None, Result, Ok, Err, IfOk}
+use Rattle.std.proofs.Common.{refl, subst, arith, length-append}
 use Rattle.std.proofs.lemmas.List.{length-replicate}
 use Rattle.std.specs.Prelude.{ℤ, pos, negsuc, ◌-ℤ◌, int_le, nat_le, nat_abs, if◌then◌else◌, is_some}
 use Rattle.std.specs.List.{All, list_any}
@@ -11,7 +12,8 @@ use Rattle.serde_json.specs.Find.{as_array}
 use Rattle.vr_json.specs.declared.fault.Cause.{Cause}
 use Rattle.vr_json.specs.declared.fault.Fault.{Fault}
 use Rattle.vr_json.specs.declared.fault.ReadFail.{ReadFail}
-use Rattle.vr_json.specs.Reading.{ReaderOf, Answers, and_then, at_path, if_present, required, optional, present, maybe, list_of, list, entries, array, first_two, two_entries, for_each, refuse_if}
+use Rattle.vr_json.specs.Reading.{ReaderOf, Answers, and_then, at_path, if_present, required, optional, present, maybe, list_of, list, entries, array}
+use Rattle.vr_json.specs.Reading.{first_two, two_entries, for_each, refuse_if}
 use Rattle.vr_json.specs.Kinds.{whole_in, whole, text_in, text, count, below}
 use Rattle.vr_model.specs.tables.WellFormed.{HasLength, IsIn, WherePresent}
 use Rattle.vr_model.specs.deciding.Testing.{within_is}
@@ -40,7 +42,8 @@ fails = record { of_value = λ y is. cc }
 pub any_value : {A E : Type 0} {r : Result A E} → Ensures (λ x. Unit {0}) r
 any_value = record { of_value = λ y is. tt }
 
-pub after : {A B E : Type 0} {P : A → Type 0} {Q : B → Type 0} {r : Result A E} {f : A → Result B E} → Ensures P r → ((x : A) → P x → Ensures Q (f x)) → Ensures Q (and_then r f)
+pub after : {A B E : Type 0} {P : A → Type 0} {Q : B → Type 0} {r : Result A E} {f : A → Result B E}
+    → Ensures P r → ((x : A) → P x → Ensures Q (f x)) → Ensures Q (and_then r f)
 unfolding and_then
 after {r = Ok x} h k = k x (h.of_value x refl)
 after {r = Err e} h k = fails
@@ -62,7 +65,8 @@ at_path_ensures {r = Ok x} path h = gives (h.of_value x refl)
 at_path_ensures {r = Err e} path h = fails
 
 -- a call that answers a reading
-pub answered : {A : Type 0} {P : A → Type 0} {answer : Result A ReadFail} {reading : Result A Fault} → Ensures P reading → Answers answer reading → IfOk answer P
+pub answered : {A : Type 0} {P : A → Type 0} {answer : Result A ReadFail} {reading : Result A Fault}
+    → Ensures P reading → Answers answer reading → IfOk answer P
 answered {answer = Ok x} h answers = h.of_value x answers.value
 answered {answer = Err e} h answers = tt
 
@@ -108,7 +112,8 @@ text_ensures lo hi path d = at_path_ensures path (text_in_ensures lo hi d)
 
 -- a field: what is known where it is absent, and of what is read where it is present
 module _ {A : Type 0} {P : A → Type 0} where
-  present_or_not : {absent : Result A Fault} {read : Data → Result A Fault} (o : Option Data) → Ensures P absent → ((d : Data) → Ensures P (read d)) → Ensures P (if_present absent read o)
+  present_or_not : {absent : Result A Fault} {read : Data → Result A Fault} (o : Option Data)
+      → Ensures P absent → ((d : Data) → Ensures P (read d)) → Ensures P (if_present absent read o)
   unfolding if_present
   present_or_not None h k = h
   present_or_not (Some d) h k = k d
@@ -136,18 +141,22 @@ list_ensures : (lo hi : ℕ) → EachEnsures (HasLength lo hi) (list lo hi)
 unfolding list
 list_ensures lo hi path d = after any_value λ items _. tested _ _ _ (has_length lo hi (list_of items))
 
-module _ {A : Type 0} (I : List A → Type 0) (read : List A → ReaderOf A) (step : (earlier : List A) → I earlier → EachEnsures (λ x. I (earlier ++ x ∷ [])) (read earlier)) where
+module _ {A : Type 0} (I : List A → Type 0) (read : List A → ReaderOf A)
+    (step : (earlier : List A) → I earlier → EachEnsures (λ x. I (earlier ++ x ∷ [])) (read earlier)) where
   -- a fact of the entries so far that each entry keeps
-  entries_ensure : (ds : List Data) (earlier : List A) (path : List ℕ) (n : ℕ) → I earlier → length earlier + length ds ≡ n → Ensures (λ xs. (length xs ≡ n) × I xs) (entries read earlier path ds)
+  entries_ensure : (ds : List Data) (earlier : List A) (path : List ℕ) (n : ℕ) → I earlier
+      → length earlier + length ds ≡ n → Ensures (λ xs. (length xs ≡ n) × I xs) (entries read earlier path ds)
   unfolding entries
   entries_ensure [] earlier path n h e = gives (omega (arith, e), h)
-  entries_ensure (d ∷ ds) earlier path n h e = after (step earlier h _ d) λ x k. entries_ensure ds (earlier ++ x ∷ []) path n k (rw (length-append earlier (x ∷ [])) (omega (arith, e)))
+  entries_ensure (d ∷ ds) earlier path n h e =
+      after (step earlier h _ d) λ x k. entries_ensure ds (earlier ++ x ∷ []) path n k (rw (length-append earlier (x ∷ [])) (omega (arith, e)))
 
   pub array_keeps : (lo hi : ℕ) → I [] → EachEnsures (λ xs. HasLength lo hi xs × I xs) (array lo hi read)
   unfolding array
   array_keeps lo hi h path d =
       after (list_ensures lo hi path d) λ ds k.
-      weaker (λ xs l. (let e = l.0 in record { at_least = omega (arith, k.at_least); at_most = omega (arith, k.at_most) }, l.1)) (entries_ensure ds [] path (length ds) h (omega arith))
+      weaker (λ xs l. (let e = l.0 in record { at_least = omega (arith, k.at_least); at_most = omega (arith, k.at_most) }, l.1))
+      (entries_ensure ds [] path (length ds) h (omega arith))
 
 -- each entry by itself
 pub array_ensures : {A : Type 0} {P : A → Type 0} {read : List A → ReaderOf A} (lo hi : ℕ) → ((earlier : List A) → EachEnsures P (read earlier))
@@ -168,7 +177,8 @@ two_entries_ensure {A} {P} {read} h path d = after any_value λ ds _. both path 
 pub field_length : {A : Type 0} (key : List ℕ) (lo hi : ℕ) (read : List A → ReaderOf A) (path : List ℕ) (d : Data) (xs : List A)
     → Answers (Ok xs) (required key (array lo hi read) path d) → HasLength lo hi xs
 field_length {A} key lo hi read path d xs h =
-    answered (required_ensures {P = HasLength lo hi} key (λ path d. weaker (λ (xs : List A) k. k.0) (array_ensures {P = λ x. Unit {0}} {read = read} lo hi (λ earlier path d. any_value) path d)) path d) h
+    answered (required_ensures {P = HasLength lo hi} key
+    (λ path d. weaker (λ (xs : List A) k. k.0) (array_ensures {P = λ x. Unit {0}} {read = read} lo hi (λ earlier path d. any_value) path d)) path d) h
 
 -- a list of n entries
 pub record IsFull {A : Type 0} (n : ℕ) (P : A → Type 0) (xs : List A) : Type 0 where
@@ -181,10 +191,12 @@ replicated n P x h = record { one_for_each = length-replicate n x; each_entry = 
 pub full : {A : Type 0} {n : ℕ} {P : A → Type 0} (xs : List A) → HasLength n n xs → All P xs → IsFull n P xs
 full xs h all = record { one_for_each = omega (arith, h.at_least, h.at_most); each_entry = all }
 
-pub full_array_ensures : {A : Type 0} {P : A → Type 0} {read : List A → ReaderOf A} (n : ℕ) → ((earlier : List A) → EachEnsures P (read earlier)) → EachEnsures (IsFull n P) (array n n read)
+pub full_array_ensures : {A : Type 0} {P : A → Type 0} {read : List A → ReaderOf A} (n : ℕ)
+    → ((earlier : List A) → EachEnsures P (read earlier)) → EachEnsures (IsFull n P) (array n n read)
 full_array_ensures n h path d = weaker (λ xs k. full xs k.0 k.1) (array_ensures n n h path d)
 
-pub for_each_ensures : {A : Type 0} {P : A → Type 0} {read : List A → ReaderOf A} (n : ℕ) → ((earlier : List A) → EachEnsures P (read earlier)) → EachEnsures (IsFull n P) (for_each n read)
+pub for_each_ensures : {A : Type 0} {P : A → Type 0} {read : List A → ReaderOf A} (n : ℕ)
+    → ((earlier : List A) → EachEnsures P (read earlier)) → EachEnsures (IsFull n P) (for_each n read)
 unfolding for_each
 for_each_ensures {P} {read} n h path d = either (is_some (as_array d)) (full_array_ensures n h path d) (after (h [] path d) λ x p. gives (replicated n P x p))
   where

@@ -14,7 +14,8 @@ use Rattle.vr_judge.specs.Standing.{IsJudging}
 use Rattle.vr_judge.proofs.VerdictLemmas.{tested_as_valid}
 
 -- a judge of this model has committed the lists of these routes, with a filter and costs
-module _ {model : Model} {routes : Tours} {holds : List (List ℕ) → Bool} {weight : List (List ℕ) → List (List ℕ) → ℕ} {stands_at : Tours → Type 0} {costs : KeptCosts}
+module _ {model : Model} {routes : Tours} {holds : List (List ℕ) → Bool}
+    {weight : List (List ℕ) → List (List ℕ) → ℕ} {stands_at : Tours → Type 0} {costs : KeptCosts}
     (judging : IsJudging model routes holds weight stands_at costs) where
   -- after a move the rule of its filter holds exactly where the lists are valid
   pub holds_as_valid : IsTrue (is_valid model routes.lists) → IsWellFormed model → (mv : Move) → IsTrue (is_move model routes.lists mv)
@@ -22,7 +23,8 @@ module _ {model : Model} {routes : Tours} {holds : List (List ℕ) → Bool} {we
   holds_as_valid valid well_formed mv is_one after makes = judging.rules after ∙ tested_as_valid model routes.lists after mv makes well_formed valid is_one
 
   -- a filter and costs that have the same rule, weights and model stand at the routes of then
-  pub stands_on : {later at : Tours} {holds_later : List (List ℕ) → Bool} {weight_later : List (List ℕ) → List (List ℕ) → ℕ} {stands_later : Tours → Type 0} {costs_later : KeptCosts}
+  pub stands_on : {later at : Tours} {holds_later : List (List ℕ) → Bool}
+      {weight_later : List (List ℕ) → List (List ℕ) → ℕ} {stands_later : Tours → Type 0} {costs_later : KeptCosts}
       → later.visits ≡ routes.visits → at ≡ later → IsSameRule holds holds_later → IsSameWeight weight weight_later
       → stands_later at → costs_later.model ≡ costs.model → StandsCosts costs_later at → IsJudging model later holds_later weight_later stands_later costs_later
   stands_on {stands_later = stands_later} {costs_later = costs_later} visits_are same rule weighs filters of_model costs_stand = record {
@@ -36,4 +38,5 @@ module _ {model : Model} {routes : Tours} {holds : List (List ℕ) → Bool} {we
 
 -- what costs stand at are valid lists of a well-formed model
 pub stand_at_valid : {costs : KeptCosts} {tours : Tours} → StandsCosts costs tours → IsWellFormed costs.model × IsTrue (is_valid costs.model tours.lists)
-stand_at_valid {tours} stands = (subst IsWellFormed stands.fixed_model stands.fixed.well_formed, subst (λ m. IsTrue (is_valid m tours.lists)) stands.fixed_model stands.fixed.valid)
+stand_at_valid {tours} stands =
+    (subst IsWellFormed stands.fixed_model stands.fixed.well_formed, subst (λ m. IsTrue (is_valid m tours.lists)) stands.fixed_model stands.fixed.valid)

@@ -8,7 +8,8 @@ use Rattle.vr_model.specs.moves.Moves.{apply}
 use Rattle.vr_model.specs.routes.Costs.{arcs_part, cost, penalty_for, penalty_part}
 use Rattle.vr_model.specs.routes.Rules.{is_valid}
 use Rattle.vr_model.specs.declared.neighbours.Move.{Move}
-use Rattle.vr_model.specs.declared.neighbours.Move.TheVariants.{TwoOpt, OrOpt, Relocate, Exchange, Cross, RelocatePair, PairActive, PairInactive, MakeActive, MakeInactive, SwapActive}
+use Rattle.vr_model.specs.declared.neighbours.Move.TheVariants.{TwoOpt, OrOpt, Relocate, Exchange, Cross, RelocatePair, PairActive, PairInactive, MakeActive}
+use Rattle.vr_model.specs.declared.neighbours.Move.TheVariants.{MakeInactive, SwapActive}
 use Rattle.vr_model.specs.declared.records.Model.{Model}
 use Rattle.vr_model.proofs.routes.CostBounds.{penalties-up_to}
 use Rattle.vr_routes.specs.Runs.{with_last}
@@ -42,11 +43,13 @@ module _ (model : Model) (pays : PaysArcsAndGroups model) (lists : List (List �
   groups_save : (mv : Move) (saved : ℤ) → ((k : ℕ) → SavesAtMost model lists (with_last mv k) saved) → AddArcsBut model lists mv saved
   groups_save mv saved save k one after =
       let later : List (List ℕ) = apply model lists (with_last mv k) in
-      let differ : cost model later -ℤ cost model lists ≡ (arcs_part model later -ℤ arcs_part model lists) +ℤ (penalty_part model later -ℤ penalty_part model lists) = pays lists later valid after in
+      let differ : cost model later -ℤ cost model lists
+      ≡ (arcs_part model later -ℤ arcs_part model lists) +ℤ (penalty_part model later -ℤ penalty_part model lists) = pays lists later valid after in
       let less = save k one after in
       omega (arith, ints, differ, less)
 
-  pub all_save : (mv : Move) (told : Option ℤ) → IfSome told (λ saved. (k : ℕ) → SavesAtMost model lists (with_last mv k) saved) → IfSome told (AddArcsBut model lists mv)
+  pub all_save : (mv : Move) (told : Option ℤ)
+      → IfSome told (λ saved. (k : ℕ) → SavesAtMost model lists (with_last mv k) saved) → IfSome told (AddArcsBut model lists mv)
   all_save mv None save = cc
   all_save mv (Some saved) save = groups_save mv saved save
 
@@ -60,7 +63,8 @@ module _ (model : Model) (pays : PaysArcsAndGroups model) (lists : List (List �
   pub same_to_pay : (mv : Move) → changes_activity (kind_of mv) ≡ false → AddArcsBut model lists mv (pos 0)
   same_to_pay mv still = groups_save mv (pos 0) λ k one after.
       let other : Move = with_last mv k in
-      let stay : penalty_part model (apply model lists other) ≡ penalty_part model lists = ap (penalties model) (stay_active model lists other one (ap changes_activity (same_kind mv k) ∙ still)) in
+      let stay : penalty_part model (apply model lists other) ≡ penalty_part model lists = ap (penalties model)
+      (stay_active model lists other one (ap changes_activity (same_kind mv k) ∙ still)) in
       omega (arith, ints, stay)
 
 -- where more than arcs and groups is paid, or where it is not but penalties may fall, a kind adds less than to arcs
@@ -68,7 +72,8 @@ pub unpaid : (model : Model) (lists : List (List ℕ)) (kind : Neighbourhood) �
 unpaid model lists kind pays = sym (ap (λ b. b && (is_same_number (penalty_part model lists) (pos 0) || not (changes_activity kind))) pays)
 
 -- where arcs and groups alone are paid, it depends on the penalties that are to pay, and on the kind
-pub by_penalties : (model : Model) (lists : List (List ℕ)) (kind : Neighbourhood) (none : Bool) → pays_arcs_and_groups model ≡ true → is_same_number (penalty_part model lists) (pos 0) ≡ none
+pub by_penalties : (model : Model) (lists : List (List ℕ)) (kind : Neighbourhood) (none : Bool)
+    → pays_arcs_and_groups model ≡ true → is_same_number (penalty_part model lists) (pos 0) ≡ none
     → (none || not (changes_activity kind)) ≡ is_least_by_arcs model lists kind
 by_penalties model lists kind none pays is =
     sym (ap (λ b. b && (is_same_number (penalty_part model lists) (pos 0) || not (changes_activity kind))) pays ∙ ap (λ b. b || not (changes_activity kind)) is)

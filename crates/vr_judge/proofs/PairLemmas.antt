@@ -27,7 +27,10 @@ use Rattle.vr_known.proofs.Activity.{same_active}
 both_held : (xs : List ℕ) (x y : ℕ) → IsTrue (comes_before xs x y) → IsTrue (holds xs x) × IsTrue (holds xs y)
 both_held [] x y h = absurd (clash false h refl)
 both_held (z ∷ zs) x y h = elim (eqb_tells z x) [
-  | inl here ↦ (or_left (x == z) (holds zs x) (test_of_eq x z (sym here.1)), or_right (y == z) (holds zs y) (subst (λ t. IsTrue (cond t (holds zs y) (comes_before zs x y))) here.0 h))
+  | inl here ↦ (
+    or_left (x == z) (holds zs x) (test_of_eq x z (sym here.1)),
+    or_right (y == z) (holds zs y) (subst (λ t. IsTrue (cond t (holds zs y) (comes_before zs x y))) here.0 h),
+  )
   | inr other ↦ (
       let rest = both_held zs x y (subst (λ t. IsTrue (cond t (holds zs y) (comes_before zs x y))) other.0 h) in
       (or_right (x == z) (holds zs x) rest.0, or_right (y == z) (holds zs y) rest.1))
@@ -67,7 +70,8 @@ module _ (pair : Pair) where
   as_often_in : (x : ℕ) → keeps x ≡ true → (xs : List ℕ) → times x (without_pair pair xs) ≡ times x xs
   as_often_in x stays [] = refl
   as_often_in x stays (y ∷ ys) = elim (here_or_later x y) [
-    | inl same ↦ ap (λ t. times x (cond t (y ∷ filter keeps ys) (filter keeps ys))) (ap keeps (sym same.0) ∙ stays) ∙ ap (λ n. hit x y + n) (as_often_in x stays ys)
+    | inl same ↦ ap (λ t. times x (cond t (y ∷ filter keeps ys) (filter keeps ys))) (ap keeps (sym same.0) ∙ stays)
+        ∙ ap (λ n. hit x y + n) (as_often_in x stays ys)
     | inr other ↦ by (keeps y) (as_often_in x stays ys) other
   ]
     where
@@ -96,9 +100,11 @@ pair_active model lists p w s t one x =
     let set = times_set x rest w (with_pair pair s t (route rest w)) (omega (arith, many, known)) in
     let put = pair_times x (route rest w) s t pair.pickup pair.delivery facts.order in
     elim (here_or_later x pair.pickup) [
-      | inl same ↦ (let one = same.1 in times_active later x (omega (arith, set, put, one)) ∙ sym (subst (λ y. IsTrue (is_active lists y)) (sym same.0) served.0))
+      | inl same ↦ (let one = same.1 in
+          times_active later x (omega (arith, set, put, one)) ∙ sym (subst (λ y. IsTrue (is_active lists y)) (sym same.0) served.0))
       | inr other ↦ elim (here_or_later x pair.delivery) [
-        | inl same ↦ (let one = same.1 in times_active later x (omega (arith, set, put, one)) ∙ sym (subst (λ y. IsTrue (is_active lists y)) (sym same.0) served.1))
+        | inl same ↦ (let one = same.1 in
+            times_active later x (omega (arith, set, put, one)) ∙ sym (subst (λ y. IsTrue (is_active lists y)) (sym same.0) served.1))
         | inr too ↦ (
             let often = as_often_without pair x (other_kept pair x other too) lists in
             same_tests (is_active later x) (is_active lists x)
@@ -108,7 +114,8 @@ pair_active model lists p w s t one x =
     ]
 
 -- the same visits are active after a move that puts visits or a pair elsewhere
-pub stay_active : (model : Model) (lists : List (List ℕ)) (mv : Move) → IsTrue (is_move model lists mv) → changes_activity (kind_of mv) ≡ false → is_active (apply model lists mv) ≡ is_active lists
+pub stay_active : (model : Model) (lists : List (List ℕ)) (mv : Move) → IsTrue (is_move model lists mv)
+    → changes_activity (kind_of mv) ≡ false → is_active (apply model lists mv) ≡ is_active lists
 stay_active model lists (RelocatePair p w s t) one low = λ i x. pair_active model lists p w s t one x i
 stay_active model lists (TwoOpt v a b) one low = same_active model lists (TwoOpt v a b) one refl
 stay_active model lists (OrOpt v a k t) one low = same_active model lists (OrOpt v a k t) one refl

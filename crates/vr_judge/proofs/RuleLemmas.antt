@@ -48,11 +48,13 @@ module _ (model : Model) where
   open_serves : (v : ℕ) (list : List ℕ) → IsTrue (is_route_open model v list) → IsTrue (keeps_pairs model v list)
   open_serves v [] opens =
       and_both (list_all (serves_pair []) model.pairs) _ (list_all-true (serves_pair []) (λ pair. refl) model.pairs)
-      (subst (λ pairs. IsTrue (list_all (λ x. list_all (λ y. policy_allows (vehicle_at model v).policy [] x y) pairs) pairs)) (sym (no_pairs_in model.pairs)) refl)
+      (subst (λ pairs. IsTrue (list_all (λ x. list_all (λ y. policy_allows (vehicle_at model v).policy [] x y) pairs) pairs))
+      (sym (no_pairs_in model.pairs)) refl)
   open_serves v (x ∷ xs) opens =
       let served = and_right (list_all (λ d. is_feasible (line model d v (x ∷ xs))) (below (length model.dimensions))) _ opens in
       let rest = and_right (list_all (serves_pair (x ∷ xs)) model.pairs) _ served in
-      and_both (list_all (serves_pair (x ∷ xs)) model.pairs) _ (and_left (list_all (serves_pair (x ∷ xs)) model.pairs) _ served) (and_left (keeps_policy model v (x ∷ xs)) _ rest)
+      and_both (list_all (serves_pair (x ∷ xs)) model.pairs) _
+      (and_left (list_all (serves_pair (x ∷ xs)) model.pairs) _ served) (and_left (keeps_policy model v (x ∷ xs)) _ rest)
 
   open_goes : (v : ℕ) (list : List ℕ) → IsTrue (is_route_open model v list) → (d : ℕ) → d < length model.dimensions → IsTrue (is_feasible_list model d v list)
   open_goes v [] opens d low = refl
@@ -73,11 +75,14 @@ module _ (model : Model) where
         let feasible = and_right (holds_of_each (keeps_pairs model) lists) _ others in
         let goes : (v : ℕ) → v < length lists → (d : ℕ) → d < length model.dimensions → IsTrue (is_feasible_list model d v (route lists v)) =
         λ v low d there. rule_at (is_feasible_list model d) lists
-        (list_all_range (λ e. holds_of_each (is_feasible_list model e) lists) 0 (length model.dimensions) feasible d (omega arith) (omega (arith, there))) v low in
+        (list_all_range (λ e. holds_of_each (is_feasible_list model e) lists) 0 (length model.dimensions) feasible d (omega arith) (omega (arith, there))) v
+        low in
         and_both (are_lists model lists) _ are
         (and_both _ _
         (and_both (are_routes_open model lists) _
-        (rule_of_all (is_route_open model) lists (λ v low. list_opens v (route lists v) (rule_at (is_allowed_list model) lists allowed v low) (rule_at (keeps_pairs model) lists pairs v low) (goes v low)))
+        (rule_of_all (is_route_open model) lists
+        (λ v low. list_opens v (route lists v) (rule_at (is_allowed_list model) lists allowed v low)
+        (rule_at (keeps_pairs model) lists pairs v low) (goes v low)))
         (and_left (list_all (fits_group lists) model.groups) _ groups))
         (and_right (list_all (fits_group lists) model.groups) _ groups))
 
@@ -91,7 +96,8 @@ module _ (model : Model) where
         let fits = and_right (are_routes_open model lists) _ opens in
         let each : (v : ℕ) → v < length lists → IsTrue (is_route_open model v (route lists v)) = rule_at (is_route_open model) lists routes in
         and_both (keeps_groups model lists) _ (and_both (list_all (fits_group lists) model.groups) _ fits enough)
-        (and_both (holds_of_each (is_allowed_list model) lists) _ (rule_of_all (is_allowed_list model) lists (λ v low. open_allows v (route lists v) (each v low)))
+        (and_both (holds_of_each (is_allowed_list model) lists) _
+        (rule_of_all (is_allowed_list model) lists (λ v low. open_allows v (route lists v) (each v low)))
         (and_both (holds_of_each (keeps_pairs model) lists) _ (rule_of_all (keeps_pairs model) lists (λ v low. open_serves v (route lists v) (each v low)))
         (range_list_all (λ d. holds_of_each (is_feasible_list model d) lists) 0 (length model.dimensions)
         (λ d low high. rule_of_all (is_feasible_list model d) lists (λ v there. open_goes v (route lists v) (each v there) d (omega (arith, high)))))))

@@ -12,7 +12,16 @@ pub stands-like : (kept : KeptCosts) (tours : Tours) → StandsCosts kept tours
     → {arcs : KeptBounded} {fixed : KeptFixed} {groups : KeptGroups} {plans : KeptPlans} {spans : KeptSpans}
     → arcs ≡ kept.arcs → fixed ≡ kept.fixed → groups ≡ kept.groups
     → plans.model ≡ kept.plans.model → StandsPlans plans tours → spans.model ≡ kept.spans.model → StandsSpans spans tours
-    → StandsCosts (record { model = kept.model; arcs = arcs; fixed = fixed; groups = groups; plans = plans; spans = spans; earliest = kept.earliest; arcs_and_groups = kept.arcs_and_groups }) tours
+    → StandsCosts (record {
+      model = kept.model;
+      arcs = arcs;
+      fixed = fixed;
+      groups = groups;
+      plans = plans;
+      spans = spans;
+      earliest = kept.earliest;
+      arcs_and_groups = kept.arcs_and_groups;
+    }) tours
 stands-like kept tours h arcs_stay fixed_stay groups_stay plans_like plans_stand spans_like spans_stand = record {
   arcs_model = ap (λ k. k.model) arcs_stay ∙ h.arcs_model;
   fixed_model = ap (λ k. k.model) fixed_stay ∙ h.fixed_model;

@@ -62,7 +62,9 @@ pub cost_of_parts : (model : Model) (lists : List (List ℕ)) → cost model lis
 unfolding cost
 cost_of_parts model lists =
     let plan = assigned model lists in
-    let sum : cost model lists ≡ arcs_part model lists +ℤ (fixed_part model lists +ℤ (global_part model plan +ℤ (penalty_part model lists +ℤ (soft_part model plan +ℤ (span_part model plan +ℤ pos 0))))) = refl in
+    let sum : cost model lists ≡ arcs_part model lists
+    +ℤ (fixed_part model lists +ℤ (global_part model plan +ℤ (penalty_part model lists +ℤ (soft_part model plan +ℤ (span_part model plan +ℤ pos 0))))) =
+    refl in
     omega (arith, ints, sum)
 
 -- what cost terms add to lists that become others
@@ -92,7 +94,8 @@ module _ (value : Model → List (List ℕ) → ℤ) {of model : Model} (lists l
   pub adds_as : added ≡ value of later -ℤ value of lists → added ≡ value model later -ℤ value model lists
   adds_as exact = exact ∙ ap (λ m. value m later -ℤ value m lists) same
 
-  pub adds_least_as : (IsTrue (is_valid of later) → added ≤ℤ (value of later -ℤ value of lists)) → IsTrue (is_valid model later) → added ≤ℤ (value model later -ℤ value model lists)
+  pub adds_least_as : (IsTrue (is_valid of later) → added ≤ℤ (value of later -ℤ value of lists))
+      → IsTrue (is_valid model later) → added ≤ℤ (value model later -ℤ value model lists)
   adds_least_as = subst (λ m. IsTrue (is_valid m later) → added ≤ℤ (value m later -ℤ value m lists)) same
 
 -- where no other part tells two lists apart, they differ in cost by their arcs and the penalties of their groups

@@ -33,5 +33,6 @@ module _ (model : Model) (lists after : List (List ℕ)) where
   refused_by is = sym (ap (λ b. cond b (Difference (cost model after -ℤ cost model lists)) Refused) is)
 
   -- valid lists make a difference
-  pub differs_by : is_valid model after ≡ true → (difference : ℤ) → difference ≡ cost model after -ℤ cost model lists → Difference difference ≡ verdict_by model lists after
+  pub differs_by : is_valid model after ≡ true → (difference : ℤ)
+      → difference ≡ cost model after -ℤ cost model lists → Difference difference ≡ verdict_by model lists after
   differs_by is difference exact = ap (λ d. Difference d) exact ∙ sym (ap (λ b. cond b (Difference (cost model after -ℤ cost model lists)) Refused) is)

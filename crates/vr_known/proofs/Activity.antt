@@ -1,5 +1,6 @@
 -- A move whose rows are vehicles leaves each visit as often in the lists as it was, so the same visits are active.
-use Rattle.std.proofs.Common.{◌⊎◌, ◌≡◌, ◌≢◌, ◌∙◌, ℕ, suc, ◌+◌, ◌<◌, ◌≤◌, true, false, List, ◌++◌, length, reverse, take, drop, sym, ap, inl, inr, arith, length-set}
+use Rattle.std.proofs.Common.{◌⊎◌, ◌≡◌, ◌≢◌, ◌∙◌, ℕ, suc, ◌+◌, ◌<◌, ◌≤◌, true, false, List, ◌++◌, length, reverse, take, drop, sym, ap, inl, inr, arith}
+use Rattle.std.proofs.Common.{length-set}
 use Rattle.std.specs.Prelude.{IsTrue, ◌==◌, slice_index, slice_range, slice_set}
 use Rattle.std.specs.List.{concat}
 use Rattle.std.proofs.lemmas.List.{get_or-set_other}
@@ -22,7 +23,8 @@ use Rattle.vr_known.proofs.Applied.{NamesVehicles}
 reversed_times : (x : ℕ) (xs : List ℕ) (a e : ℕ) → a ≤ e → times x (reversed_between xs a e) ≡ times x xs
 reversed_times x xs a e low =
     let whole = times_split x a xs in
-    let rest : times x (drop a xs) ≡ times x (slice_range xs a e) + times x (drop e xs) = ap (times x) (drop_split xs a e low) ∙ times_append x (slice_range xs a e) (drop e xs) in
+    let rest : times x (drop a xs) ≡ times x (slice_range xs a e) + times x (drop e xs) = ap (times x) (drop_split xs a e low)
+    ∙ times_append x (slice_range xs a e) (drop e xs) in
     let mid = times_reverse x (slice_range xs a e) in
     let one = times_append x (take a xs) (reverse (slice_range xs a e) ++ drop e xs) in
     let two = times_append x (reverse (slice_range xs a e)) (drop e xs) in
@@ -33,7 +35,8 @@ moved_times x xs a k t =
     let rest : List ℕ = take a xs ++ drop (a + k) xs in
     let chain : List ℕ = slice_range xs a (a + k) in
     let whole = times_split x a xs in
-    let tail : times x (drop a xs) ≡ times x chain + times x (drop (a + k) xs) = ap (times x) (drop_split xs a (a + k) (omega arith)) ∙ times_append x chain (drop (a + k) xs) in
+    let tail : times x (drop a xs) ≡ times x chain + times x (drop (a + k) xs) = ap (times x) (drop_split xs a (a + k) (omega arith))
+    ∙ times_append x chain (drop (a + k) xs) in
     let parts = times_append x (take a xs) (drop (a + k) xs) in
     let cut = times_split x t rest in
     let one = times_append x (take t rest) (chain ++ drop t rest) in
@@ -44,7 +47,8 @@ module _ (model : Model) (lists : List (List ℕ)) where
   same_in_one : (x v : ℕ) (list : List ℕ) → v < length lists → times x list ≡ times x (route lists v) → times_in x (slice_set lists v list) ≡ times_in x lists
   same_in_one x v list low same = let whole = times_set x lists v list low in omega (arith, whole, same)
 
-  same_in_two : (x v w n : ℕ) (list other : List ℕ) → v < length lists → w < length lists → v ≢ w → times x list + n ≡ times x (route lists v) → times x other ≡ times x (route lists w) + n
+  same_in_two : (x v w n : ℕ) (list other : List ℕ) → v < length lists → w < length lists → v ≢ w
+      → times x list + n ≡ times x (route lists v) → times x other ≡ times x (route lists w) + n
       → times_in x (slice_set (slice_set lists v list) w other) ≡ times_in x lists
   same_in_two x v w n list other low low_w apart less more =
       let one = times_set x lists v list low in
@@ -93,12 +97,14 @@ module _ (model : Model) (lists : List (List ℕ)) where
       omega (arith, one, put, two, put_two, found)
     where
       kept : (v a w b y : ℕ) → v < length lists → ((v == w) ≡ true → a < b) → ((eqb v w ≡ true) × (v ≡ w)) ⊎ ((eqb v w ≡ false) × (v ≢ w))
-          → (slice_index (route (slice_set lists v (slice_set (route lists v) a y)) w) b ≡ slice_index (route lists w) b) × (length (route (slice_set lists v (slice_set (route lists v) a y)) w) ≡ length (route lists w))
+          → (slice_index (route (slice_set lists v (slice_set (route lists v) a y)) w) b ≡ slice_index (route lists w) b)
+          × (length (route (slice_set lists v (slice_set (route lists v) a y)) w) ≡ length (route lists w))
       kept v a w b y low behind (inl same) =
           let order = behind same.0 in
           let list : List ℕ = slice_set (route lists v) a y in
           let row : route (slice_set lists v list) w ≡ list = ap (route (slice_set lists v list)) (sym same.1) ∙ route_set_same lists v list low in (
-            ap (λ l. slice_index l b) row ∙ get_or-set_other (route lists v) a b y 0 (λ e. omega (arith, e, order)) ∙ ap (λ u. slice_index (route lists u) b) same.1,
+            ap (λ l. slice_index l b) row ∙ get_or-set_other (route lists v) a b y 0 (λ e. omega (arith, e, order))
+                ∙ ap (λ u. slice_index (route lists u) b) same.1,
             ap length row ∙ length-set (route lists v) a y ∙ ap (λ u. length (route lists u)) same.1,
           )
       kept v a w b y low behind (inr other) =
@@ -113,7 +119,8 @@ module _ (model : Model) (lists : List (List ℕ)) where
       let one = times_set x lists v list low in
       let there : w < length (slice_set lists v list) = omega (arith, low_w, length-set lists v list) in
       let two = times_set x (slice_set lists v list) w more there in
-      let same : times x (route (slice_set lists v list) w) ≡ times x (route lists w) = ap (times x) (route_set_other lists v w list (λ e. omega (arith, e, order))) in
+      let same : times x (route (slice_set lists v list) w) ≡ times x (route lists w) = ap (times x)
+      (route_set_other lists v w list (λ e. omega (arith, e, order))) in
       let cut_v = times_split x a (route lists v) in
       let cut_w = times_split x b (route lists w) in
       let join_v = times_append x (take b (route lists w)) (drop a (route lists v)) in
@@ -132,8 +139,10 @@ active_where lists more x same h =
 
 -- the same visits are active in lists in which each number stands as often
 pub active_same : (lists more : List (List ℕ)) → ((x : ℕ) → times_in x lists ≡ times_in x more) → is_active lists ≡ is_active more
-active_same lists more same = λ i x. same_tests (is_active lists x) (is_active more x) (active_where lists more x (same x)) (active_where more lists x (sym (same x))) i
+active_same lists more same =
+    λ i x. same_tests (is_active lists x) (is_active more x) (active_where lists more x (same x)) (active_where more lists x (sym (same x))) i
 
 -- the same visits are active after the move as before it
-pub same_active : (model : Model) (lists : List (List ℕ)) (mv : Move) → IsTrue (is_move model lists mv) → NamesVehicles mv → is_active (apply model lists mv) ≡ is_active lists
+pub same_active : (model : Model) (lists : List (List ℕ)) (mv : Move) → IsTrue (is_move model lists mv)
+    → NamesVehicles mv → is_active (apply model lists mv) ≡ is_active lists
 same_active model lists mv h kind = active_same (apply model lists mv) lists (as_often model lists mv h kind)

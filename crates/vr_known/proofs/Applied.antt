@@ -75,7 +75,8 @@ module _ (model : Model) (lists : List (List ℕ)) where
         let more : List ℕ = remove (route other v) a in
         let one : list ≡ more = ap (λ l. remove l a) agree.first in
         let many : length (with_route lists v list) ≡ length (with_route other v more) = length-set lists v list ∙ agree.many ∙ sym (length-set other v more) in
-        set_alike (with_route lists v list) (with_route other v more) w u _ _ many (let l = length-set lists v list in let s = second_low mv h kind in omega (arith, l, s))
+        set_alike (with_route lists v list) (with_route other v more) w u _ _ many
+        (let l = length-set lists v list in let s = second_low mv h kind in omega (arith, l, s))
         (ap₂ (λ l m. insert m t (node_at l a)) agree.first agree.second)
         (set_alike lists other v u list more agree.many (first_low mv h kind) one there)
     alike (Exchange v a w b) h kind agree u there =
@@ -84,8 +85,10 @@ module _ (model : Model) (lists : List (List ℕ)) where
         let more : List ℕ = slice_set (route other v) a (node_at (route other w) b) in
         let one : list ≡ more = ap₂ (λ l m. slice_set l a (node_at m b)) agree.first agree.second in
         let many : length (with_route lists v list) ≡ length (with_route other v more) = length-set lists v list ∙ agree.many ∙ sym (length-set other v more) in
-        let at : (x : ℕ) → route lists x ≡ route other x → route (with_route lists v list) x ≡ route (with_route other v more) x = λ x e. set_alike lists other v x list more agree.many (first_low mv h kind) one e in
-        set_alike (with_route lists v list) (with_route other v more) w u _ _ many (let l = length-set lists v list in let s = second_low mv h kind in omega (arith, l, s))
+        let at : (x : ℕ) → route lists x ≡ route other x → route (with_route lists v list) x ≡ route (with_route other v more) x = λ x e. set_alike lists
+        other v x list more agree.many (first_low mv h kind) one e in
+        set_alike (with_route lists v list) (with_route other v more) w u _ _ many
+        (let l = length-set lists v list in let s = second_low mv h kind in omega (arith, l, s))
         (ap₂ (λ l m. slice_set m b (node_at l a)) agree.first (at w agree.second))
         (at u there)
     alike (Cross v a w b) h kind agree u there =
@@ -94,7 +97,8 @@ module _ (model : Model) (lists : List (List ℕ)) where
         let more : List ℕ = take b (route other w) ++ drop a (route other v) in
         let one : list ≡ more = ap₂ (λ l m. take b m ++ drop a l) agree.first agree.second in
         let many : length (with_route lists v list) ≡ length (with_route other v more) = length-set lists v list ∙ agree.many ∙ sym (length-set other v more) in
-        set_alike (with_route lists v list) (with_route other v more) w u _ _ many (let l = length-set lists v list in let s = second_low mv h kind in omega (arith, l, s))
+        set_alike (with_route lists v list) (with_route other v more) w u _ _ many
+        (let l = length-set lists v list in let s = second_low mv h kind in omega (arith, l, s))
         (ap₂ (λ l m. take a l ++ drop b m) agree.first agree.second)
         (set_alike lists other v u list more agree.many (first_low mv h kind) one there)
     alike mv h kind agree u there = absurd (false≢true kind)

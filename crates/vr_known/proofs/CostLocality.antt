@@ -9,7 +9,8 @@ use Rattle.vr_model.specs.tables.Tables.{vehicle_at, dimension_at}
 use Rattle.vr_model.specs.routes.Routes.{route, is_active, is_empty, route_cost}
 use Rattle.vr_model.specs.schedules.Lines.{stop_rows}
 use Rattle.vr_model.specs.schedules.Schedules.{Plan, cumul}
-use Rattle.vr_model.specs.routes.Costs.{no_plan, fixed_part, global_part, global_span, penalty_for, soft_part, span_part, row_cost, chosen_plans, assigned, parts_at, sum_of, cost, over_plans}
+use Rattle.vr_model.specs.routes.Costs.{no_plan, fixed_part, global_part, global_span, penalty_for, soft_part, span_part, row_cost, chosen_plans, assigned}
+use Rattle.vr_model.specs.routes.Costs.{parts_at, sum_of, cost, over_plans}
 use Rattle.vr_model.specs.moves.Moves.{apply}
 use Rattle.vr_model.specs.declared.records.Model.{Model}
 use Rattle.vr_model.specs.declared.records.Parts.{Parts}
@@ -38,7 +39,8 @@ module _ (model : Model) (mv : Move) (lists other : List (List ℕ)) (local : Is
       ap (λ n. total_by (λ v. f v (route (apply model lists mv) v)) (below n) -ℤ over f lists) (as_many model lists mv)
       ∙ sym (total_by-less (λ v. f v (route (apply model lists mv) v)) (λ v. f v (route lists v)) (below (length lists)))
       ∙ total_by-same (λ u. f u (route (apply model lists mv) u) -ℤ f u (route lists u)) (λ u. f u (route (apply model other mv) u) -ℤ f u (route other u))
-      (λ u. one_local (f u) (route lists u) (route other u) (route (apply model lists mv) u) (route (apply model other mv) u) (local.each u)) (below (length lists))
+      (λ u. one_local (f u) (route lists u) (route other u) (route (apply model lists mv) u) (route (apply model other mv) u) (local.each u))
+      (below (length lists))
       ∙ total_by-less (λ v. f v (route (apply model other mv) v)) (λ v. f v (route other v)) (below (length lists))
       ∙ ap (λ n. total_by (λ v. f v (route (apply model other mv) v)) (below n) -ℤ total_by (λ v. f v (route other v)) (below n)) local.many
       ∙ ap (λ n. total_by (λ v. f v (route (apply model other mv) v)) (below n) -ℤ over f other) (sym (as_many model other mv))
@@ -61,7 +63,8 @@ module _ (model : Model) where
   soft_by plans v list d = total_by (λ stop. row_cost stop.0 stop.1) (zip (stop_rows (dimension_at model d) v list) (slice_index_or plans d no_plan).cumuls)
 
   abbrev span_by : List Plan → ℕ → List ℕ → ℕ → ℤ
-  span_by plans v list d = number_at (dimension_at model d).span_costs v *ℤ (cumul (slice_index_or plans d no_plan) (suc (length list)) -ℤ cumul (slice_index_or plans d no_plan) 0)
+  span_by plans v list d = number_at (dimension_at model d).span_costs v
+      *ℤ (cumul (slice_index_or plans d no_plan) (suc (length list)) -ℤ cumul (slice_index_or plans d no_plan) 0)
 
   abbrev in_all : (List Plan → ℕ → List ℕ → ℕ → ℤ) → List Plan → ℕ → List ℕ → ℤ
   in_all by plans v list = total_by (by plans v list) (below (length model.dimensions))
@@ -76,8 +79,10 @@ module _ (model : Model) where
     planned_over : (by : List Plan → ℕ → List ℕ → ℕ → ℤ)
         → over_plans model (assigned model lists) (λ d v. by (slice_index_or (assigned model lists).plans v []) v (route lists v) d) ≡ over (planned by) lists
     planned_over by =
-        total_by-failing (λ v. in_all by (slice_index_or (assigned model lists).plans v []) v (route lists v)) (λ v. is_empty (route lists v)) (below (length lists))
-        ∙ sum_same (λ v. where_used (route lists v) (in_all by (slice_index_or (assigned model lists).plans v []) v (route lists v))) (λ v. planned by v (route lists v)) 0 (length lists)
+        total_by-failing (λ v. in_all by (slice_index_or (assigned model lists).plans v []) v (route lists v))
+        (λ v. is_empty (route lists v)) (below (length lists))
+        ∙ sum_same (λ v. where_used (route lists v) (in_all by (slice_index_or (assigned model lists).plans v []) v (route lists v)))
+        (λ v. planned by v (route lists v)) 0 (length lists)
         (λ v low known. ap (λ plans. where_used (route lists v) (in_all by plans v (route lists v))) (plans_of v (omega (arith, known))))
 
     soft_over : soft_part model (assigned model lists) ≡ over (planned soft_by) lists
@@ -112,7 +117,8 @@ sums_differ a b c d arcs fixed spans penalty soft span = omega (arith, ints, arc
 none_differ : (a b c d : ℤ) → a ≡ b → c ≡ d → a -ℤ b ≡ c -ℤ d
 none_differ a b c d e f = omega (arith, ints, e, f)
 
-four : (f : List (List ℕ) → ℤ) (g : List (List ℕ) → ℤ) (a b c d : List (List ℕ)) → ((l : List (List ℕ)) → f l ≡ g l) → g a -ℤ g b ≡ g c -ℤ g d → f a -ℤ f b ≡ f c -ℤ f d
+four : (f : List (List ℕ) → ℤ) (g : List (List ℕ) → ℤ) (a b c d : List (List ℕ))
+    → ((l : List (List ℕ)) → f l ≡ g l) → g a -ℤ g b ≡ g c -ℤ g d → f a -ℤ f b ≡ f c -ℤ f d
 four f g a b c d same e = let p = same a in let q = same b in let r = same c in let s = same d in omega (arith, ints, p, q, r, s, e)
 
 pub cost_is_local : CostIsLocal
@@ -121,10 +127,13 @@ cost_is_local model none lists other mv both =
     let local = is_local model lists other mv both in
     let after : List (List ℕ) = apply model lists mv in
     let later : List (List ℕ) = apply model other mv in
-    sums_differ (parts_at model (assigned model after)) (parts_at model (assigned model lists)) (parts_at model (assigned model later)) (parts_at model (assigned model other))
+    sums_differ (parts_at model (assigned model after)) (parts_at model (assigned model lists))
+    (parts_at model (assigned model later)) (parts_at model (assigned model other))
     (sum_local model mv lists other local (route_cost model))
     (four (fixed_part model) (over (fixed_in model)) after lists later other (fixed_over model) (sum_local model mv lists other local (fixed_in model)))
     (none_differ _ _ _ _ (no_global model none after ∙ sym (no_global model none lists)) (no_global model none later ∙ sym (no_global model none other)))
     (one_local (penalties model) (is_active lists) (is_active other) (is_active after) (is_active later) local.active)
-    (four (λ l. soft_part model (assigned model l)) (over (planned model (soft_by model))) after lists later other (soft_over model) (sum_local model mv lists other local (planned model (soft_by model))))
-    (four (λ l. span_part model (assigned model l)) (over (planned model (span_by model))) after lists later other (span_over model) (sum_local model mv lists other local (planned model (span_by model))))
+    (four (λ l. soft_part model (assigned model l)) (over (planned model (soft_by model))) after lists
+    later other (soft_over model) (sum_local model mv lists other local (planned model (soft_by model))))
+    (four (λ l. span_part model (assigned model l)) (over (planned model (span_by model))) after lists
+    later other (span_over model) (sum_local model mv lists other local (planned model (span_by model))))

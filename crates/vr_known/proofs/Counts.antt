@@ -27,10 +27,12 @@ is_other_below x k low = Prim.grind arith
 is_other_same : (x k : ℕ) → x ≡ k → is_other x k ≡ false
 is_other_same x k e = Prim.grind arith
 
-step_other : (x a m : ℕ) → is_other x a ≡ true → length (filter (is_other x) (range_with_len a (suc m))) ≡ suc (length (filter (is_other x) (range_with_len (a + 1) m)))
+step_other : (x a m : ℕ) → is_other x a ≡ true
+    → length (filter (is_other x) (range_with_len a (suc m))) ≡ suc (length (filter (is_other x) (range_with_len (a + 1) m)))
 step_other x a m e = ap (λ t. length (cond t (a ∷ filter (is_other x) (range_with_len (a + 1) m)) (filter (is_other x) (range_with_len (a + 1) m)))) e
 
-step_same : (x a m : ℕ) → is_other x a ≡ false → length (filter (is_other x) (range_with_len a (suc m))) ≡ length (filter (is_other x) (range_with_len (a + 1) m))
+step_same : (x a m : ℕ) → is_other x a ≡ false
+    → length (filter (is_other x) (range_with_len a (suc m))) ≡ length (filter (is_other x) (range_with_len (a + 1) m))
 step_same x a m e = ap (λ t. length (cond t (a ∷ filter (is_other x) (range_with_len (a + 1) m)) (filter (is_other x) (range_with_len (a + 1) m)))) e
 
 count_but_one : (x n a : ℕ) → a ≤ x → x < a + suc n → length (filter (is_other x) (range_with_len a (suc n))) ≡ n

@@ -13,7 +13,8 @@ use Rattle.vr_model.specs.moves.MoveTests.{is_move}
 use Rattle.vr_model.specs.declared.records.Model.{Model}
 use Rattle.vr_model.specs.declared.records.Pair.{Pair}
 use Rattle.vr_model.specs.declared.neighbours.Move.{Move}
-use Rattle.vr_model.specs.declared.neighbours.Move.TheVariants.{TwoOpt, OrOpt, Relocate, Exchange, Cross, RelocatePair, PairActive, PairInactive, MakeActive, MakeInactive, SwapActive}
+use Rattle.vr_model.specs.declared.neighbours.Move.TheVariants.{TwoOpt, OrOpt, Relocate, Exchange, Cross, RelocatePair, PairActive, PairInactive, MakeActive}
+use Rattle.vr_model.specs.declared.neighbours.Move.TheVariants.{MakeInactive, SwapActive}
 use Rattle.vr_model.proofs.tables.Tests.{clash}
 use Rattle.vr_model.proofs.routes.Lists.{are-lists, route_set_same, route_set_other}
 use Rattle.vr_model.proofs.moves.Times.{times, times_in, times_set}
@@ -24,7 +25,8 @@ use Rattle.vr_known.specs.Blocks.{first_of, second_of, IsSource, Agree}
 use Rattle.vr_known.specs.Locality.{Alike}
 use Rattle.vr_known.proofs.Applied.{same_or_not, NamesSame, NamesVehicles, stays, alike, set_alike, named_move_local}
 use Rattle.vr_known.proofs.Activity.{active_same, same_active}
-use Rattle.vr_known.proofs.Pairs.{one_of_lists, comes_held, active_some, route_map, off_the_list, Serves, serves, serves_together, delivers_too, served, target_low, same_active_pair, keeps, active_without}
+use Rattle.vr_known.proofs.Pairs.{one_of_lists, comes_held, active_some, route_map, off_the_list, Serves, serves, serves_together, delivers_too, served}
+use Rattle.vr_known.proofs.Pairs.{target_low, same_active_pair, keeps, active_without}
 
 -- something is the same in both and comes to the same, or it stays in both
 abbrev pub ComesToSame : {A : Type 0} → A → A → A → A → Type 0
@@ -45,7 +47,8 @@ owned_same model (Exchange v a w b) lists other kind agree = record { many = agr
 owned_same model (Cross v a w b) lists other kind agree = record { many = agree.many; first = agree.source v refl; second = agree.second }
 owned_same model mv lists other kind agree = absurd (false≢true kind)
 
-module _ (model : Model) (mv : Move) (lists other : List (List ℕ)) (h : IsTrue (is_move model lists mv)) (kind : NamesVehicles mv) (agree : NamesSame mv lists other) where
+module _ (model : Model) (mv : Move) (lists other : List (List ℕ)) (h : IsTrue (is_move model lists mv))
+    (kind : NamesVehicles mv) (agree : NamesSame mv lists other) where
   -- a vehicle is one of the move's, and so has the same list in both, or its list stays in both
   owned_each : (u : ℕ) → ComesToSame (route lists u) (route other u) (route (apply model lists mv) u) (route (apply model other mv) u)
   owned_each u = elim (same_or_not u (first_of mv)) [
@@ -68,7 +71,8 @@ module _ (model : Model) (mv : Move) (lists other : List (List ℕ)) (h : IsTrue
 
 -- ---- one list that changes, and the active visits with it
 
-module _ (lists other : List (List ℕ)) (w : ℕ) (list more : List ℕ) (many : length lists ≡ length other) (low : w < length lists) (there : route lists w ≡ route other w) (same : list ≡ more) where
+module _ (lists other : List (List ℕ)) (w : ℕ) (list more : List ℕ) (many : length lists ≡ length other)
+    (low : w < length lists) (there : route lists w ≡ route other w) (same : list ≡ more) where
   low_other : w < length other
   low_other = omega (arith, low, many)
 
@@ -76,7 +80,8 @@ module _ (lists other : List (List ℕ)) (w : ℕ) (list more : List ℕ) (many 
   put_each u = elim (same_or_not u w) [
     | inl here ↦ inl (
       ap (route lists) here ∙ there ∙ ap (route other) (sym here),
-      ap (route (with_route lists w list)) here ∙ route_set_same lists w list low ∙ same ∙ sym (route_set_same other w more low_other) ∙ ap (route (with_route other w more)) (sym here),
+      ap (route (with_route lists w list)) here ∙ route_set_same lists w list low ∙ same
+          ∙ sym (route_set_same other w more low_other) ∙ ap (route (with_route other w more)) (sym here),
     )
     | inr apart ↦ inr (route_set_other lists w u list apart, route_set_other other w u more apart)
   ]
@@ -105,7 +110,8 @@ module _ (lists other : List (List ℕ)) (w : ℕ) (list more : List ℕ) (many 
 
 -- ---- a pair that is put elsewhere
 
-module _ (model : Model) (lists other : List (List ℕ)) (p w s t : ℕ) (h : IsTrue (is_move model lists (RelocatePair p w s t))) (agree : Agree model (RelocatePair p w s t) lists other) where
+module _ (model : Model) (lists other : List (List ℕ)) (p w s t : ℕ)
+    (h : IsTrue (is_move model lists (RelocatePair p w s t))) (agree : Agree model (RelocatePair p w s t) lists other) where
   pair_serves : Serves (pair_at model p) lists
   pair_serves = serves model lists p (served model lists p w s t h)
 
@@ -184,7 +190,8 @@ module _ (model : Model) (lists other : List (List ℕ)) (p w s t : ℕ) (h : Is
 
 -- ---- a pair that is taken out
 
-module _ (model : Model) (lists other : List (List ℕ)) (p : ℕ) (h : IsTrue (is_move model lists (PairInactive p))) (agree : Agree model (PairInactive p) lists other) where
+module _ (model : Model) (lists other : List (List ℕ)) (p : ℕ)
+    (h : IsTrue (is_move model lists (PairInactive p))) (agree : Agree model (PairInactive p) lists other) where
   abbrev out : Pair
   out = pair_at model p
 
@@ -200,7 +207,8 @@ module _ (model : Model) (lists other : List (List ℕ)) (p : ℕ) (h : IsTrue (
       let many = agree.many in
       and_both (nat_lt p (length model.pairs)) _ (and_left (nat_lt p (length model.pairs)) _ h)
       (list_any_at (λ list. holds list out.pickup && holds list out.delivery) other out_serves.vehicle [] (omega (arith, low, many))
-      (ap (λ list. holds list out.pickup && holds list out.delivery) (sym out_seat) ∙ and_both (holds (route lists out_serves.vehicle) out.pickup) _ out_serves.picks out_serves.delivers))
+      (ap (λ list. holds list out.pickup && holds list out.delivery) (sym out_seat)
+      ∙ and_both (holds (route lists out_serves.vehicle) out.pickup) _ out_serves.picks out_serves.delivers))
 
   module _ (few_here : (x : ℕ) → times_in x lists ≤ 1) (few_there : (x : ℕ) → times_in x other ≤ 1) where
     out_each : (u : ℕ) → ComesToSame (route lists u) (route other u) (route (map (without_pair out) lists) u) (route (map (without_pair out) other) u)
@@ -211,7 +219,10 @@ module _ (model : Model) (lists other : List (List ℕ)) (p : ℕ) (h : IsTrue (
       | inr apart ↦ (
           let picks : IsTrue (holds (route other out_serves.vehicle) out.pickup) = ap (λ l. holds l out.pickup) (sym out_seat) ∙ out_serves.picks in
           let delivers : IsTrue (holds (route other out_serves.vehicle) out.delivery) = ap (λ l. holds l out.delivery) (sym out_seat) ∙ out_serves.delivers in
-          inr (off_the_list out lists out_serves.vehicle u few_here out_serves.picks out_serves.delivers apart, off_the_list out other out_serves.vehicle u few_there picks delivers apart))
+          inr (
+            off_the_list out lists out_serves.vehicle u few_here out_serves.picks out_serves.delivers apart,
+            off_the_list out other out_serves.vehicle u few_there picks delivers apart,
+          ))
     ]
 
     out_local : IsLocal model (PairInactive p) lists other
@@ -226,10 +237,12 @@ module _ (model : Model) (lists other : List (List ℕ)) (p : ℕ) (h : IsTrue (
 -- ---- all kinds
 
 -- a move of the one is a move of the other
-pub moves_local : (model : Model) (lists other : List (List ℕ)) (mv : Move) → IsTrue (is_move model lists mv) → Agree model mv lists other → is_move model other mv ≡ is_move model lists mv
+pub moves_local : (model : Model) (lists other : List (List ℕ)) (mv : Move) → IsTrue (is_move model lists mv)
+    → Agree model mv lists other → is_move model other mv ≡ is_move model lists mv
 moves_local model lists other (RelocatePair p w s t) h agree = pair_moves model lists other p w s t h agree ∙ sym h
 moves_local model lists other (PairActive p w s t) h agree = let n = sym agree.many in let l = sym agree.second in let f = sym (agree.active refl) in
-    λ i. (not (f i (pair_at model p).pickup) && not (f i (pair_at model p).delivery)) && (nat_lt p (length model.pairs) && (nat_lt w (n i) && (nat_le s t && nat_le t (length (l i)))))
+    λ i. (not (f i (pair_at model p).pickup) && not (f i (pair_at model p).delivery))
+    && (nat_lt p (length model.pairs) && (nat_lt w (n i) && (nat_le s t && nat_le t (length (l i)))))
 moves_local model lists other (PairInactive p) h agree = out_moves model lists other p h agree ∙ sym h
 moves_local model lists other (MakeActive u w t) h agree = let n = sym agree.many in let l = sym agree.second in let f = sym (agree.active refl) in
     λ i. (is_visit model u && not (f i u)) && (nat_lt w (n i) && nat_le t (length (l i)))
@@ -237,11 +250,16 @@ moves_local model lists other (MakeInactive v a) h agree = let n = sym agree.man
     λ i. nat_lt v (n i) && nat_lt a (length (l i))
 moves_local model lists other (SwapActive v a u) h agree = let n = sym agree.many in let l = sym agree.second in let f = sym (agree.active refl) in
     λ i. nat_lt v (n i) && (nat_lt a (length (l i)) && (is_visit model u && not (f i u)))
-moves_local model lists other (TwoOpt v a b) h agree = named_move_local model lists other (TwoOpt v a b) refl (owned_same model (TwoOpt v a b) lists other refl agree)
-moves_local model lists other (OrOpt v a k t) h agree = named_move_local model lists other (OrOpt v a k t) refl (owned_same model (OrOpt v a k t) lists other refl agree)
-moves_local model lists other (Relocate v a w t) h agree = named_move_local model lists other (Relocate v a w t) refl (owned_same model (Relocate v a w t) lists other refl agree)
-moves_local model lists other (Exchange v a w b) h agree = named_move_local model lists other (Exchange v a w b) refl (owned_same model (Exchange v a w b) lists other refl agree)
-moves_local model lists other (Cross v a w b) h agree = named_move_local model lists other (Cross v a w b) refl (owned_same model (Cross v a w b) lists other refl agree)
+moves_local model lists other (TwoOpt v a b) h agree =
+    named_move_local model lists other (TwoOpt v a b) refl (owned_same model (TwoOpt v a b) lists other refl agree)
+moves_local model lists other (OrOpt v a k t) h agree =
+    named_move_local model lists other (OrOpt v a k t) refl (owned_same model (OrOpt v a k t) lists other refl agree)
+moves_local model lists other (Relocate v a w t) h agree =
+    named_move_local model lists other (Relocate v a w t) refl (owned_same model (Relocate v a w t) lists other refl agree)
+moves_local model lists other (Exchange v a w b) h agree =
+    named_move_local model lists other (Exchange v a w b) refl (owned_same model (Exchange v a w b) lists other refl agree)
+moves_local model lists other (Cross v a w b) h agree =
+    named_move_local model lists other (Cross v a w b) refl (owned_same model (Cross v a w b) lists other refl agree)
 
 module _ (model : Model) (lists other : List (List ℕ)) (valid : IsTrue (is_valid model lists)) (other_valid : IsTrue (is_valid model other)) where
   few_in : (x : ℕ) → times_in x lists ≤ 1
@@ -250,7 +268,8 @@ module _ (model : Model) (lists other : List (List ℕ)) (valid : IsTrue (is_val
   few_in_other : (x : ℕ) → times_in x other ≤ 1
   few_in_other = few model other (are-lists model other other_valid)
 
-  one_list : (mv : Move) (w : ℕ) (list more : List ℕ) → apply model lists mv ≡ with_route lists w list → apply model other mv ≡ with_route other w more → second_of mv ≡ w → IsTrue (changes_activity (kind_of mv))
+  one_list : (mv : Move) (w : ℕ) (list more : List ℕ) → apply model lists mv ≡ with_route lists w list
+      → apply model other mv ≡ with_route other w more → second_of mv ≡ w → IsTrue (changes_activity (kind_of mv))
       → w < length lists → list ≡ more → Agree model mv lists other → IsLocal model mv lists other
   one_list mv w list more made made_too named changes low same agree =
       let there : route lists w ≡ route other w = ap (route lists) (sym named) ∙ agree.second ∙ ap (route other) named in
@@ -258,21 +277,27 @@ module _ (model : Model) (lists other : List (List ℕ)) (valid : IsTrue (is_val
       record {
         many = agree.many;
         each = λ u. subst (λ l. ComesToSame (route lists u) (route other u) (route l u) (route (apply model other mv) u)) (sym made)
-            (subst (λ l. ComesToSame (route lists u) (route other u) (route (with_route lists w list) u) (route l u)) (sym made_too) (put_each lists other w list more agree.many low there same u));
-        active = inl (active, ap is_active made ∙ put_active lists other w list more agree.many low there same few_in few_in_other active ∙ ap is_active (sym made_too));
+            (subst (λ l. ComesToSame (route lists u) (route other u) (route (with_route lists w list) u) (route l u))
+            (sym made_too) (put_each lists other w list more agree.many low there same u));
+        active = inl (
+          active,
+          ap is_active made ∙ put_active lists other w list more agree.many low there same few_in few_in_other active ∙ ap is_active (sym made_too),
+        );
       }
 
   local_of : (mv : Move) → IsTrue (is_move model lists mv) → Agree model mv lists other → IsLocal model mv lists other
   local_of (RelocatePair p w s t) h agree = pair_local model lists other p w s t h agree few_in few_in_other
   local_of (PairActive p w s t) h agree =
-      one_list (PairActive p w s t) w _ _ refl refl refl refl (let low : w < length lists = Prim.grind arith in low) (ap (with_pair (pair_at model p) s t) agree.second) agree
+      one_list (PairActive p w s t) w _ _ refl refl refl refl (let low : w < length lists = Prim.grind arith in low)
+      (ap (with_pair (pair_at model p) s t) agree.second) agree
   local_of (PairInactive p) h agree = out_local model lists other p h agree few_in few_in_other
   local_of (MakeActive u w t) h agree =
       one_list (MakeActive u w t) w _ _ refl refl refl refl (let low : w < length lists = Prim.grind arith in low) (ap (λ l. insert l t u) agree.second) agree
   local_of (MakeInactive v a) h agree =
       one_list (MakeInactive v a) v _ _ refl refl refl refl (let low : v < length lists = Prim.grind arith in low) (ap (λ l. remove l a) agree.second) agree
   local_of (SwapActive v a u) h agree =
-      one_list (SwapActive v a u) v _ _ refl refl refl refl (let low : v < length lists = Prim.grind arith in low) (ap (λ l. slice_set l a u) agree.second) agree
+      one_list (SwapActive v a u) v _ _ refl refl refl refl
+      (let low : v < length lists = Prim.grind arith in low) (ap (λ l. slice_set l a u) agree.second) agree
   local_of (TwoOpt v a b) h agree = owned_local model (TwoOpt v a b) lists other h refl (owned_same model (TwoOpt v a b) lists other refl agree)
   local_of (OrOpt v a k t) h agree = owned_local model (OrOpt v a k t) lists other h refl (owned_same model (OrOpt v a k t) lists other refl agree)
   local_of (Relocate v a w t) h agree = owned_local model (Relocate v a w t) lists other h refl (owned_same model (Relocate v a w t) lists other refl agree)
@@ -285,7 +310,8 @@ is_local model lists other mv both = local_of model lists other both.valid both.
 -- ---- what a move leaves
 
 -- a move that changes no activity leaves the active visits
-pub activity_stays : (model : Model) (lists : List (List ℕ)) (mv : Move) → IsTrue (is_move model lists mv) → changes_activity (kind_of mv) ≡ false → is_active (apply model lists mv) ≡ is_active lists
+pub activity_stays : (model : Model) (lists : List (List ℕ)) (mv : Move) → IsTrue (is_move model lists mv)
+    → changes_activity (kind_of mv) ≡ false → is_active (apply model lists mv) ≡ is_active lists
 activity_stays model lists (RelocatePair p w s t) h low = same_active_pair model lists p w s t h
 activity_stays model lists (TwoOpt v a b) h low = same_active model lists (TwoOpt v a b) h refl
 activity_stays model lists (OrOpt v a k t) h low = same_active model lists (OrOpt v a k t) h refl
@@ -296,12 +322,14 @@ activity_stays model lists mv h still = absurd (false≢true (sym still))
 
 -- the list of a vehicle that is none of the move's stays
 module _ (model : Model) (lists : List (List ℕ)) (few_here : (x : ℕ) → times_in x lists ≤ 1) where
-  pub pair_out_stays : (p : ℕ) → IsTrue (is_move model lists (PairInactive p)) → (v : ℕ) → IsSource model lists (PairInactive p) v → (u : ℕ) → u ≢ v → route (apply model lists (PairInactive p)) u ≡ route lists u
+  pub pair_out_stays : (p : ℕ) → IsTrue (is_move model lists (PairInactive p)) → (v : ℕ)
+      → IsSource model lists (PairInactive p) v → (u : ℕ) → u ≢ v → route (apply model lists (PairInactive p)) u ≡ route lists u
   pair_out_stays p h v source u apart =
       let at = serves_together model lists p (and_right (nat_lt p (length model.pairs)) _ h) in
       off_the_list (pair_at model p) lists v u few_here source (delivers_too model lists p few_here at v source) apart
 
-  pub others_stay : (mv : Move) → IsTrue (is_move model lists mv) → (v : ℕ) → IsSource model lists mv v → (u : ℕ) → u ≢ v → u ≢ second_of mv → route (apply model lists mv) u ≡ route lists u
+  pub others_stay : (mv : Move) → IsTrue (is_move model lists mv) → (v : ℕ) → IsSource model lists mv v
+      → (u : ℕ) → u ≢ v → u ≢ second_of mv → route (apply model lists mv) u ≡ route lists u
   others_stay (RelocatePair p w s t) h v source u apart too =
       let at = serves model lists p (served model lists p w s t h) in
       route_set_other (map (without_pair (pair_at model p)) lists) w u _ too

@@ -35,7 +35,8 @@ module _ (model : Model) where
   abbrev together : Bool → Bool → Bool → Bool → Bool → Bool
   together lists open_ fits needed full = lists && ((open_ && fits) && (needed && full))
 
-  valid_is : (lists : List (List ℕ)) → is_valid model lists ≡ together (are_lists model lists) (are_routes_open model lists) (fit (is_active lists)) (required (is_active lists)) (enough (is_active lists))
+  valid_is : (lists : List (List ℕ)) → is_valid model lists
+      ≡ together (are_lists model lists) (are_routes_open model lists) (fit (is_active lists)) (required (is_active lists)) (enough (is_active lists))
   unfolding is_valid is_open
   valid_is lists = refl
 
@@ -47,7 +48,9 @@ module _ (model : Model) where
 
   keeps : (lists : List (List ℕ)) → IsTrue (is_valid model lists) → Keeps lists
   keeps lists valid =
-      let all : IsTrue (together (are_lists model lists) (are_routes_open model lists) (fit (is_active lists)) (required (is_active lists)) (enough (is_active lists))) = sym (valid_is lists) ∙ valid in
+      let all : IsTrue
+      (together (are_lists model lists) (are_routes_open model lists) (fit (is_active lists)) (required (is_active lists)) (enough (is_active lists))) =
+      sym (valid_is lists) ∙ valid in
       let rest = and_right (are_lists model lists) _ all in
       let first = and_left (are_routes_open model lists && fit (is_active lists)) _ rest in
       let second = and_right (are_routes_open model lists && fit (is_active lists)) _ rest in
@@ -59,10 +62,12 @@ module _ (model : Model) where
       }
 
   open_at : (lists : List (List ℕ)) → IsTrue (is_valid model lists) → (v : ℕ) → v < length lists → is_route_open model v (route lists v) ≡ true
-  open_at lists valid v low = list_all_range (λ v. is_route_open model v (route lists v)) 0 (length lists) (keeps lists valid).open_routes v (omega arith) (omega (arith, low))
+  open_at lists valid v low =
+      list_all_range (λ v. is_route_open model v (route lists v)) 0 (length lists) (keeps lists valid).open_routes v (omega arith) (omega (arith, low))
 
 -- a test of what comes to the same, or passed and stays, says the same
-rule_local : {A : Type 0} (p : A → Bool) (before other after later : A) → p before ≡ true → p other ≡ true → ComesToSame before other after later → p after ≡ p later
+rule_local : {A : Type 0} (p : A → Bool) (before other after later : A) → p before ≡ true
+    → p other ≡ true → ComesToSame before other after later → p after ≡ p later
 rule_local p before other after later passes passes_too (inl same) = ap p same.1
 rule_local p before other after later passes passes_too (inr stay) = ap p stay.0 ∙ passes ∙ sym passes_too ∙ ap p (sym stay.1)
 
@@ -83,7 +88,8 @@ module _ (model : Model) (lists other : List (List ℕ)) (mv : Move) (both : Ali
   opens_local : are_routes_open model after ≡ are_routes_open model later
   opens_local =
       ap (λ n. list_all (λ u. is_route_open model u (route after u)) (below n)) (as_many model lists mv)
-      ∙ all_same (λ u. is_route_open model u (route after u)) (λ u. is_route_open model u (route later u)) 0 (length lists) (λ u low. opened u (omega (arith, low)))
+      ∙ all_same (λ u. is_route_open model u (route after u)) (λ u. is_route_open model u (route later u))
+      0 (length lists) (λ u low. opened u (omega (arith, low)))
       ∙ ap (λ n. list_all (λ u. is_route_open model u (route later u)) (below n)) (local.many ∙ sym (as_many model other mv))
 
   -- a rule that asks which visits are active
@@ -97,13 +103,18 @@ validity_is_local model well lists other mv both =
     let then : List (List ℕ) = apply model other mv in
     let here = keeps model lists both.valid in
     let there = keeps model other both.other_valid in
-    let are : are_lists model now ≡ are_lists model then = moves_keep_lists model well lists mv (are-lists model lists both.valid) both.is_one ∙ sym (moves_keep_lists model well other mv (are-lists model other both.other_valid) h_other) in
+    let are : are_lists model now ≡ are_lists model then = moves_keep_lists model well lists mv (are-lists model lists both.valid) both.is_one
+    ∙ sym (moves_keep_lists model well other mv (are-lists model other both.other_valid) h_other) in
     valid_is model now
     ∙ ap (λ b. together model b (are_routes_open model now) (fit model (is_active now)) (required model (is_active now)) (enough model (is_active now))) are
-    ∙ ap (λ b. together model (are_lists model then) b (fit model (is_active now)) (required model (is_active now)) (enough model (is_active now))) (opens_local model lists other mv both)
-    ∙ ap (λ b. together model (are_lists model then) (are_routes_open model then) b (required model (is_active now)) (enough model (is_active now))) (by_activity model lists other mv both (fit model) here.fits there.fits)
-    ∙ ap (λ b. together model (are_lists model then) (are_routes_open model then) (fit model (is_active then)) b (enough model (is_active now))) (by_activity model lists other mv both (required model) here.needed there.needed)
-    ∙ ap (λ b. together model (are_lists model then) (are_routes_open model then) (fit model (is_active then)) (required model (is_active then)) b) (by_activity model lists other mv both (enough model) here.full there.full)
+    ∙ ap (λ b. together model (are_lists model then) b (fit model (is_active now)) (required model (is_active now)) (enough model (is_active now)))
+    (opens_local model lists other mv both)
+    ∙ ap (λ b. together model (are_lists model then) (are_routes_open model then) b (required model (is_active now)) (enough model (is_active now)))
+    (by_activity model lists other mv both (fit model) here.fits there.fits)
+    ∙ ap (λ b. together model (are_lists model then) (are_routes_open model then) (fit model (is_active then)) b (enough model (is_active now)))
+    (by_activity model lists other mv both (required model) here.needed there.needed)
+    ∙ ap (λ b. together model (are_lists model then) (are_routes_open model then) (fit model (is_active then)) (required model (is_active then)) b)
+    (by_activity model lists other mv both (enough model) here.full there.full)
     ∙ sym (valid_is model then)
 
 pub moves_are_local : MovesAreLocal

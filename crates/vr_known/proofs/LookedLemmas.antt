@@ -30,7 +30,8 @@ within_left limit i n k e = Prim.grind arith
 count_some : (passes : ℕ → Bool) (a b : ℕ) → a < b → passes a ≡ true → 1 ≤ length (filter passes (from_to a b))
 count_some passes a b low there =
     let more : List ℕ = filter passes (from_to (a + 1) b) in
-    let e : length (filter passes (from_to a b)) ≡ suc (length more) = ap (λ l. length (filter passes l)) (from_to_step a b low) ∙ ap (λ t. length (cond t (a ∷ more) more)) there in
+    let e : length (filter passes (from_to a b)) ≡ suc (length more) = ap (λ l. length (filter passes l)) (from_to_step a b low)
+    ∙ ap (λ t. length (cond t (a ∷ more) more)) there in
     omega (arith, e)
 
 -- a question from a number on that has a move is followed by a try: that move is passed over, or left to be taken
@@ -38,10 +39,12 @@ pub followed_by : (limit : ℕ) (passes : ℕ → Bool) (f : ℕ → Move) (next
     → many ≡ length (filter passes (from_to next first)) → counted ≡ capped (count + many)
     → tries_within limit (count + 1) ≤ tries_within limit (counted + any_of (run_of passes f first end))
 followed_by limit passes f next first end count many counted low there order number counts = elim (cases_lt next first) [
-  | inl further ↦ (let some = count_some passes next first further there in within_one limit count many counted (any_of (run_of passes f first end)) (omega (arith, some, number)) counts)
+  | inl further ↦ (let some = count_some passes next first further there in
+      within_one limit count many counted (any_of (run_of passes f first end)) (omega (arith, some, number)) counts)
   | inr high ↦ (
       let same : next ≡ first = omega (arith, order, high) in
-      let one : any_of (run_of passes f first end) ≡ 1 = subst (λ k. any_of (run_of passes f k end) ≡ 1) same (ap any_of (run_takes passes f next end low there)) in
+      let one : any_of (run_of passes f first end) ≡ 1 = subst (λ k. any_of (run_of passes f k end) ≡ 1)
+      same (ap any_of (run_takes passes f next end low there)) in
       subst (λ n. tries_within limit (count + 1) ≤ tries_within limit (counted + n)) (sym one) (within_left limit count many counted counts)
       )
 ]
@@ -53,20 +56,24 @@ tried_first moves left (Some mv) first = ap any_of first
 
 module _ {J : Type 0} (can_ask : J → Type 0) (judged looked : J → ℕ) (limit : ℕ) where
   -- nothing was asked
-  pub looked_none : (judge : J) (count counted : ℕ) → can_ask judge → tries_within limit count ≤ tries_within limit counted → Looked can_ask judged looked limit judge count judge counted
+  pub looked_none : (judge : J) (count counted : ℕ) → can_ask judge
+      → tries_within limit count ≤ tries_within limit counted → Looked can_ask judged looked limit judge count judge counted
   looked_none judge count counted ready more = record { ready = ready; judges_none = refl; followed = omega (arith, more) }
 
   -- one question before the limit
-  pub looked_once : (a b : J) (count : ℕ) → can_ask b → judged b ≡ judged a → looked b ≤ looked a + 1 → count < limit → limit < 2 ^ 64 → Looked can_ask judged looked limit a count b (count + 1)
+  pub looked_once : (a b : J) (count : ℕ) → can_ask b → judged b ≡ judged a → looked b ≤ looked a + 1
+      → count < limit → limit < 2 ^ 64 → Looked can_ask judged looked limit a count b (count + 1)
   looked_once a b count ready same most low fits = let one = within_next limit count low fits in
       record { ready = ready; judges_none = same; followed = omega (arith, most, one) }
 
   -- one after the other
-  pub looked_more : (a b c : J) (i k n : ℕ) → Looked can_ask judged looked limit a i b k → Looked can_ask judged looked limit b k c n → Looked can_ask judged looked limit a i c n
+  pub looked_more : (a b c : J) (i k n : ℕ) → Looked can_ask judged looked limit a i b k
+      → Looked can_ask judged looked limit b k c n → Looked can_ask judged looked limit a i c n
   looked_more a b c i k n p q = let first = p.followed in let second = q.followed in
       record { ready = q.ready; judges_none = q.judges_none ∙ p.judges_none; followed = omega (arith, first, second) }
 
   -- more was tried
-  pub looked_further : (a b : J) (i k n : ℕ) → tries_within limit k ≤ tries_within limit n → Looked can_ask judged looked limit a i b k → Looked can_ask judged looked limit a i b n
+  pub looked_further : (a b : J) (i k n : ℕ) → tries_within limit k ≤ tries_within limit n
+      → Looked can_ask judged looked limit a i b k → Looked can_ask judged looked limit a i b n
   looked_further a b i k n more p = let first = p.followed in
       record { ready = p.ready; judges_none = p.judges_none; followed = omega (arith, first, more) }

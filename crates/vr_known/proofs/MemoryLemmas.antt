@@ -1,5 +1,6 @@
 -- What is remembered after something was learned or forgotten.
-use Rattle.std.proofs.Common.{◌≡◌, ◌≢◌, ◌∙◌, ◌⊎◌, ℕ, zero, suc, ◌+◌, ◌*◌, ◌<◌, ◌≤◌, Bool, true, false, ◌&&◌, ◌||◌, cond, List, [], ◌∷◌, length, drop, drop-cons, add-one, refl, sym, ap, subst, inl, inr, arith, nat_lt}
+use Rattle.std.proofs.Common.{◌≡◌, ◌≢◌, ◌∙◌, ◌⊎◌, ℕ, zero, suc, ◌+◌, ◌*◌, ◌<◌, ◌≤◌, Bool, true, false, ◌&&◌, ◌||◌, cond, List, [], ◌∷◌, length, drop, drop-cons}
+use Rattle.std.proofs.Common.{add-one, refl, sym, ap, subst, inl, inr, arith, nat_lt}
 use Rattle.std.specs.Prelude.{IsTrue, ◌==◌, slice_index_or, slice_set}
 use Rattle.std.proofs.Math.ListN.{replicate}
 use Rattle.std.proofs.lemmas.Bool.{cases_Bool, cases_lt, false≢true}
@@ -11,7 +12,8 @@ use Rattle.vr_model.specs.moves.Moves.{is_pair_served, without_pair}
 use Rattle.vr_model.specs.moves.MoveTests.{is_move, may_put_pair}
 use Rattle.vr_model.specs.declared.records.Model.{Model}
 use Rattle.vr_model.specs.declared.neighbours.Move.{Move}
-use Rattle.vr_model.specs.declared.neighbours.Move.TheVariants.{TwoOpt, OrOpt, Relocate, Exchange, Cross, RelocatePair, PairActive, PairInactive, MakeActive, MakeInactive, SwapActive}
+use Rattle.vr_model.specs.declared.neighbours.Move.TheVariants.{TwoOpt, OrOpt, Relocate, Exchange, Cross, RelocatePair, PairActive, PairInactive, MakeActive}
+use Rattle.vr_model.specs.declared.neighbours.Move.TheVariants.{MakeInactive, SwapActive}
 use Rattle.vr_model.specs.declared.neighbours.Neighbourhood.{Neighbourhood}
 use Rattle.vr_model.specs.declared.neighbours.Neighbourhood.TheVariants as all
 use Rattle.vr_model.proofs.tables.Tests.{clash, test_of_lt}
@@ -21,7 +23,8 @@ use Rattle.vr_model.proofs.moves.Kept.{pair_of_test}
 use Rattle.vr_routes.specs.Seats.{IsSeat, IsOnce}
 use Rattle.vr_routes.proofs.OnceLemmas.{few_times}
 use Rattle.vr_model.specs.moves.Kinds.{changes_activity, is_by_pair, is_by_vehicle, is_same_kind, kind_of, owner, rows_of}
-use Rattle.vr_known.specs.Blocks.{Memory, AreSettled, IsApart, IsSource, common_change, covers, seen_at, changed_at, is_known, is_later, is_behind, is_kind_of, stamp_of, first_of, second_of}
+use Rattle.vr_known.specs.Blocks.{Memory, AreSettled, IsApart, IsSource, common_change, covers, seen_at, changed_at, is_known, is_later, is_behind, is_kind_of}
+use Rattle.vr_known.specs.Blocks.{stamp_of, first_of, second_of}
 use Rattle.vr_known.proofs.Applied.{same_or_not}
 use Rattle.vr_known.proofs.Pairs.{nowhere_else, some_active}
 use Rattle.vr_known.proofs.RowLemmas.{one_stamp, same_kind, same_test}
@@ -75,10 +78,12 @@ module _ (memory : Memory) where
   unsettled = record memory { active = memory.clock }
 
   -- one row is learned
-  pub learns : (kind : Neighbourhood) (row i : ℕ) → i ≡ stamp_of kind row → row < rows_of kind → (k : Neighbourhood) (u w : ℕ) → u < rows_of k → IsTrue (is_known (learned i) k u w) → IsTrue (is_known memory k u w) ⊎ ((k ≡ kind) × (u ≡ row))
+  pub learns : (kind : Neighbourhood) (row i : ℕ) → i ≡ stamp_of kind row → row < rows_of kind → (k : Neighbourhood) (u w : ℕ)
+      → u < rows_of k → IsTrue (is_known (learned i) k u w) → IsTrue (is_known memory k u w) ⊎ ((k ≡ kind) × (u ≡ row))
   learns kind row i is low k u w low_u h = elim (same_or_not (stamp_of k u) i) [
     | inl same ↦ inr (one_stamp k u kind row low_u low (same ∙ is))
-    | inr apart ↦ inl (subst (λ s. IsTrue (nat_lt (common_change memory k u) s && nat_lt (changed_at memory w) s)) (get_or-set_other memory.seen i (stamp_of k u) memory.clock 0 apart) h)
+    | inr apart ↦ inl (subst (λ s. IsTrue (nat_lt (common_change memory k u) s && nat_lt (changed_at memory w) s))
+        (get_or-set_other memory.seen i (stamp_of k u) memory.clock 0 apart) h)
   ]
 
   -- one row is forgotten
@@ -101,14 +106,16 @@ module _ (memory : Memory) where
       | inr same ↦ subst (λ s. IsTrue (nat_lt (changed_at memory w) s)) same h
     ]
 
-    pub emptied_keeps : (k : Neighbourhood) (u w v : ℕ) → IsTrue (is_known (emptied i) k u w) → IsTrue (is_later memory k u v) → IsTrue (is_later (emptied i) k u v)
+    pub emptied_keeps : (k : Neighbourhood) (u w v : ℕ) → IsTrue (is_known (emptied i) k u w)
+        → IsTrue (is_later memory k u v) → IsTrue (is_later (emptied i) k u v)
     emptied_keeps k u w v h before = elim (emptied_seen k u) [
       | inl none ↦ absurd (clash (is_known (emptied i) k u w) h (unseen_unknown (emptied i) k u w none))
       | inr same ↦ subst (λ s. IsTrue (nat_lt (changed_at memory v) s)) (sym same) before
     ]
 
     pub emptied_unknown : (kind : Neighbourhood) (row : ℕ) → i ≡ stamp_of kind row → (w : ℕ) → is_known (emptied i) kind row w ≡ false
-    emptied_unknown kind row is w = unseen_unknown (emptied i) kind row w (ap (λ j. slice_index_or (slice_set memory.seen i 0) j 0) (sym is) ∙ get_or-set_same memory.seen i 0 0 low)
+    emptied_unknown kind row is w =
+        unseen_unknown (emptied i) kind row w (ap (λ j. slice_index_or (slice_set memory.seen i 0) j 0) (sym is) ∙ get_or-set_same memory.seen i 0 0 low)
 
   module _ (each : (i : ℕ) → slice_index_or memory.seen i 0 ≤ memory.clock) where
     -- a vehicle changes now
@@ -159,12 +166,14 @@ pub record SoFar (all : List Neighbourhood) (mv : Move) (begin now : Memory) (le
   pub behind : (k : Neighbourhood) (u : ℕ) → IsTrue (is_behind left k u mv) → IsTrue (is_behind all k u mv)
   pub learned_so : (k : Neighbourhood) (u w : ℕ) → u < rows_of k → IsTrue (is_known now k u w) → IsTrue (is_known begin k u w) ⊎ IsTrue (is_behind all k u mv)
 
-module _ (all : List Neighbourhood) (mv : Move) (begin now : Memory) (n : Neighbourhood) (left : List Neighbourhood) (so : SoFar all mv begin now (n ∷ left)) where
+module _ (all : List Neighbourhood) (mv : Move) (begin now : Memory) (n : Neighbourhood)
+    (left : List Neighbourhood) (so : SoFar all mv begin now (n ∷ left)) where
   abbrev told : Bool → Neighbourhood → ℕ → Bool
   told b k u = cond b (is_same_kind k (kind_of mv) && nat_lt u (first_of mv)) (is_same_kind k n || is_behind left k u mv)
 
   -- another neighbourhood stands in front, and its moves were learned
-  pub goes_on : (next : Memory) → is_same_kind n (kind_of mv) ≡ false → ((k : Neighbourhood) (u w : ℕ) → u < rows_of k → IsTrue (is_known next k u w) → IsTrue (is_known now k u w) ⊎ (k ≡ n)) → SoFar all mv begin next left
+  pub goes_on : (next : Memory) → is_same_kind n (kind_of mv) ≡ false
+      → ((k : Neighbourhood) (u w : ℕ) → u < rows_of k → IsTrue (is_known next k u w) → IsTrue (is_known now k u w) ⊎ (k ≡ n)) → SoFar all mv begin next left
   goes_on next other more = record {
     behind = λ k u h. so.behind k u (ap (λ b. told b k u) other ∙ or_right (is_same_kind k n) _ h);
     learned_so = λ k u w low h. elim (more k u w low h) [
@@ -174,11 +183,13 @@ module _ (all : List Neighbourhood) (mv : Move) (begin now : Memory) (n : Neighb
   }
 
   -- it is that of the move: the moves of the vehicles before were learned
-  pub stops : (next : Memory) → is_same_kind n (kind_of mv) ≡ true → ((k : Neighbourhood) (u w : ℕ) → u < rows_of k → IsTrue (is_known next k u w) → IsTrue (is_known now k u w) ⊎ ((k ≡ kind_of mv) × (u < first_of mv)))
+  pub stops : (next : Memory) → is_same_kind n (kind_of mv) ≡ true
+      → ((k : Neighbourhood) (u w : ℕ) → u < rows_of k → IsTrue (is_known next k u w) → IsTrue (is_known now k u w) ⊎ ((k ≡ kind_of mv) × (u < first_of mv)))
       → (k : Neighbourhood) (u w : ℕ) → u < rows_of k → IsTrue (is_known next k u w) → IsTrue (is_known begin k u w) ⊎ IsTrue (is_behind all k u mv)
   stops next same more k u w low h = elim (more k u w low h) [
     | inl before ↦ so.learned_so k u w low before
-    | inr here ↦ inr (so.behind k u (ap (λ b. told b k u) same ∙ and_both (is_same_kind k (kind_of mv)) _ (same_test k (kind_of mv) here.0) (test_of_lt u (first_of mv) here.1)))
+    | inr here ↦ inr (so.behind k u
+        (ap (λ b. told b k u) same ∙ and_both (is_same_kind k (kind_of mv)) _ (same_test k (kind_of mv) here.0) (test_of_lt u (first_of mv) here.1)))
   ]
 
 -- what was learned of the neighbourhoods so far is of kinds of theirs
@@ -212,7 +223,8 @@ module _ (all : List Neighbourhood) (begin now next : Memory) (k end : ℕ) (kin
       → (j : Neighbourhood) (u w : ℕ) → u < rows_of j → IsTrue (is_known next j u w) → IsTrue (is_known begin j u w) ⊎ IsTrue (is_behind all j u mv)
   notes_last mv same ends so =
       stops all mv begin now kind (drop (k + 1) all) (subst (SoFar all mv begin now) left_is so) next same
-      (λ j u w row h. elim (more j u w row h) [ inl before ↦ inl before | inr there ↦ inr (there.0 ∙ same_kind kind (kind_of mv) same, subst (λ n. u < n) ends there.1) ])
+      (λ j u w row h. elim (more j u w row h)
+      [ inl before ↦ inl before | inr there ↦ inr (there.0 ∙ same_kind kind (kind_of mv) same, subst (λ n. u < n) ends there.1) ])
 
   pub notes_all : AllSoFar all begin now (drop k all) → AllSoFar all begin next (drop (k + 1) all)
   notes_all so = all_goes_on all begin now next kind (drop (k + 1) all) (subst (AllSoFar all begin now) left_is so) learned_kind
@@ -258,7 +270,8 @@ module _ (lists : List (List ℕ)) where
 pub record SettledSoFar (model : Model) (lists : List (List ℕ)) (begin now : Memory) (n : ℕ) : Type 0 where
   pub fewer : (k : Neighbourhood) (u w : ℕ) → IsTrue (is_known now k u w) → IsTrue (is_known begin k u w)
   pub earlier : (k : Neighbourhood) (u w : ℕ) → IsTrue (is_later now k u w) → IsTrue (is_later begin k u w)
-  pub settled : (kind : Neighbourhood) (p w v : ℕ) → IsTrue (is_by_pair (owner kind)) → p < n → IsTrue (is_known now kind p w) → IsTrue (holds (route lists v) (pair_at model p).pickup) → IsTrue (is_later now kind p v)
+  pub settled : (kind : Neighbourhood) (p w v : ℕ) → IsTrue (is_by_pair (owner kind)) → p < n
+      → IsTrue (is_known now kind p w) → IsTrue (holds (route lists v) (pair_at model p).pickup) → IsTrue (is_later now kind p v)
 
 -- the row of a pair and a kind is forgotten where the list of a vehicle has changed since
 pub record SettlesRow (now next : Memory) (kind : Neighbourhood) (n at : ℕ) : Type 0 where
@@ -275,7 +288,8 @@ module _ (model : Model) (lists : List (List ℕ)) (begin now : Memory) (n : ℕ
     earlier = so.earlier;
     settled = λ kind p w v paired low known h. elim (cases_lt p n) [
       | inl before ↦ so.settled kind p w v paired before known h
-      | inr here ↦ absurd (nowhere_held lists (pair_at model n).pickup v none (subst (λ q. IsTrue (holds (route lists v) (pair_at model q).pickup)) (let e : p ≡ n = omega (arith, low, here) in e) h))
+      | inr here ↦ absurd (nowhere_held lists (pair_at model n).pickup v none
+          (subst (λ q. IsTrue (holds (route lists v) (pair_at model q).pickup)) (let e : p ≡ n = omega (arith, low, here) in e) h))
     ];
   }
 
@@ -291,7 +305,8 @@ module _ (model : Model) (lists : List (List ℕ)) (begin now : Memory) (n : ℕ
           out.keeps kind p w v known (put.keeps kind p w v before_out (so.settled kind p w v paired before (put.fewer kind p w before_out) h)))
       | inr here ↦ (
           let same : p ≡ n = omega (arith, low, here) in
-          let is : v ≡ at = held_once lists once (pair_at model n).pickup at k v seat (subst (λ q. IsTrue (holds (route lists v) (pair_at model q).pickup)) same h) in
+          let is : v ≡ at = held_once lists once (pair_at model n).pickup at k v seat
+          (subst (λ q. IsTrue (holds (route lists v) (pair_at model q).pickup)) same h) in
           subst (λ q. IsTrue (is_later next kind q v)) (sym same)
           (subst (λ x. IsTrue (is_later next kind n x)) (sym is) (here_settled kind w paired (subst (λ q. IsTrue (is_known next kind q w)) same known))))
     ];
@@ -306,8 +321,10 @@ module _ (model : Model) (lists : List (List ℕ)) (begin now : Memory) (n : ℕ
 
 -- the list of a vehicle from which a known move takes has not changed either
 module _ (model : Model) (lists : List (List ℕ)) (memory : Memory) (settled : AreSettled model lists memory) where
-  later_first : (k : Neighbourhood) (u w : ℕ) → changes_activity k ≡ false → IsTrue (is_by_vehicle (owner k)) → IsTrue (is_known memory k u w) → (v : ℕ) → v ≡ u → IsTrue (is_later memory k u v)
-  later_first k u w still owned known v is = subst (λ x. IsTrue (is_later memory k u x)) (sym is) (subst (λ c. IsTrue (nat_lt c (seen_at memory k u))) is_first (first_known memory k u w known))
+  later_first : (k : Neighbourhood) (u w : ℕ) → changes_activity k ≡ false → IsTrue (is_by_vehicle (owner k))
+      → IsTrue (is_known memory k u w) → (v : ℕ) → v ≡ u → IsTrue (is_later memory k u v)
+  later_first k u w still owned known v is =
+      subst (λ x. IsTrue (is_later memory k u x)) (sym is) (subst (λ c. IsTrue (nat_lt c (seen_at memory k u))) is_first (first_known memory k u w known))
     where
       is_first : common_change memory k u ≡ changed_at memory u
       is_first = ap (λ b. cond b memory.active (cond (is_by_vehicle (owner k)) (changed_at memory u) 0)) still ∙ ap (λ b. cond b (changed_at memory u) 0) owned
@@ -327,9 +344,12 @@ module _ (model : Model) (lists : List (List ℕ)) (memory : Memory) (settled : 
       pair_low : IsTrue (is_move model lists (RelocatePair p w s t)) → p < length model.pairs
       pair_low one =
           let others = and_right (is_pair_served model lists p) _ one in
-          pair_of_test model lists p (and_left (nat_lt p (length model.pairs)) _ (and_left (may_put_pair model lists p w (length (without_pair (pair_at model p) (route lists w))) s t) _ others))
+          pair_of_test model lists p
+          (and_left (nat_lt p (length model.pairs)) _
+          (and_left (may_put_pair model lists p w (length (without_pair (pair_at model p) (route lists w))) s t) _ others))
   later_source (PairActive p w s t) one known v is = later_second all.PairActive w known v is
-  later_source (PairInactive p) one known v is = settled all.PairInactive p 0 v refl (pair_of_test model lists p (and_left (nat_lt p (length model.pairs)) _ one)) known is
+  later_source (PairInactive p) one known v is =
+      settled all.PairInactive p 0 v refl (pair_of_test model lists p (and_left (nat_lt p (length model.pairs)) _ one)) known is
   later_source (MakeActive u w t) one known v is = later_second all.MakeActive w known v is
   later_source (MakeInactive x a) one known v is = later_second all.MakeInactive x known v is
   later_source (SwapActive x a u) one known v is = later_second all.SwapActive x known v is

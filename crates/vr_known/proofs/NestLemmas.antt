@@ -1,5 +1,6 @@
 -- Ranges of numbers, and the lists made of them.
-use Rattle.std.proofs.Common.{◌≡◌, ◌∙◌, ℕ, zero, suc, ◌+◌, ◌-◌, ◌<◌, ◌≤◌, Bool, true, false, cond, List, [], ◌∷◌, ◌++◌, map, length, length-append, refl, sym, ap, ap₂, subst, inl, inr, arith}
+use Rattle.std.proofs.Common.{◌≡◌, ◌∙◌, ℕ, zero, suc, ◌+◌, ◌-◌, ◌<◌, ◌≤◌, Bool, true, false, cond, List, [], ◌∷◌, ◌++◌, map, length, length-append, refl, sym}
+use Rattle.std.proofs.Common.{ap, ap₂, subst, inl, inr, arith}
 use Rattle.std.specs.Prelude.{filter, slice_index}
 use Rattle.std.specs.List.{range_with_len}
 use Rattle.std.proofs.lemmas.Bool.{cases_lt}
@@ -29,7 +30,8 @@ range_split a m b order within =
 -- one number more of a range, where it passes
 pub count_more : (p : ℕ → Bool) (a k : ℕ) → a ≤ k → length (filter p (from_to a (k + 1))) ≡ length (filter p (from_to a k)) + cond (p k) 1 0
 count_more p a k order =
-    ap (λ l. length (filter p l)) (range_split a k (k + 1) order (omega arith) ∙ ap (λ l. from_to a k ++ l) (from_to_step k (k + 1) (omega arith) ∙ ap (λ l. k ∷ l) (none_left (k + 1) (k + 1) (omega arith))))
+    ap (λ l. length (filter p l)) (range_split a k (k + 1) order (omega arith)
+    ∙ ap (λ l. from_to a k ++ l) (from_to_step k (k + 1) (omega arith) ∙ ap (λ l. k ∷ l) (none_left (k + 1) (k + 1) (omega arith))))
     ∙ ap length (filter-append p (from_to a k) (k ∷ []))
     ∙ length-append (filter p (from_to a k)) (filter p (k ∷ []))
     ∙ ap (λ n. length (filter p (from_to a k)) + n) (by (p k))
@@ -55,12 +57,14 @@ module _ {A : Type 0} (passes : ℕ → Bool) where
   pub joined_goes_on : (f : ℕ → List A) (a b : ℕ) → a < b → joined_of passes f a b ≡ cond (passes a) (f a) [] ++ joined_of passes f (a + 1) b
   joined_goes_on f a b low = ap (λ l. each (filter passes l) f) (from_to_step a b low) ∙ by (passes a)
     where
-      by : (t : Bool) → each (cond t (a ∷ filter passes (from_to (a + 1) b)) (filter passes (from_to (a + 1) b))) f ≡ cond t (f a) [] ++ joined_of passes f (a + 1) b
+      by : (t : Bool)
+          → each (cond t (a ∷ filter passes (from_to (a + 1) b)) (filter passes (from_to (a + 1) b))) f ≡ cond t (f a) [] ++ joined_of passes f (a + 1) b
       by true = refl
       by false = refl
 
   -- what the first number gives stands in front of the others
-  pub joined_opens : (f : ℕ → List A) (a b : ℕ) (opened : List A) → a < b → opened ≡ cond (passes a) (f a) [] → opened ++ joined_of passes f (a + 1) b ≡ joined_of passes f a b
+  pub joined_opens : (f : ℕ → List A) (a b : ℕ) (opened : List A) → a < b
+      → opened ≡ cond (passes a) (f a) [] → opened ++ joined_of passes f (a + 1) b ≡ joined_of passes f a b
   joined_opens f a b opened low is = ap (λ l. l ++ joined_of passes f (a + 1) b) is ∙ sym (joined_goes_on f a b low)
 
   pub joined_ends : (f : ℕ → List A) (a b : ℕ) → b ≤ a → joined_of passes f a b ≡ []
@@ -94,19 +98,25 @@ joined_all_below f n = joined_all f 0 n ∙ ap (λ l. each l f) (all_left n)
 
 each_later : {A : Type 0} (g : ℕ → List A) (a n : ℕ) → each (range_with_len (suc a) n) g ≡ each (range_with_len a n) (λ k. g (suc k))
 each_later g a zero = refl
-each_later g a (suc n) = ap (λ l. g (suc a) ++ l) (ap (λ b. each (range_with_len b n) g) (let e : suc a + 1 ≡ suc (a + 1) = omega arith in e) ∙ each_later g (a + 1) n)
+each_later g a (suc n) =
+    ap (λ l. g (suc a) ++ l) (ap (λ b. each (range_with_len b n) g) (let e : suc a + 1 ≡ suc (a + 1) = omega arith in e) ∙ each_later g (a + 1) n)
 
 pub each_places : {A : Type 0} (f : ℕ → List A) (xs : List ℕ) → each (below (length xs)) (λ k. f (slice_index xs k)) ≡ each xs f
 each_places f [] = refl
-each_places f (x ∷ xs) = ap (λ l. f x ++ l) (ap (λ b. each (range_with_len b (length xs)) (λ k. f (slice_index (x ∷ xs) k))) (let e : 0 + 1 ≡ 1 = omega arith in e) ∙ each_later (λ k. f (slice_index (x ∷ xs) k)) 0 (length xs) ∙ each_places f xs)
+each_places f (x ∷ xs) = ap (λ l. f x ++ l)
+    (ap (λ b. each (range_with_len b (length xs)) (λ k. f (slice_index (x ∷ xs) k))) (let e : 0 + 1 ≡ 1 = omega arith in e)
+    ∙ each_later (λ k. f (slice_index (x ∷ xs) k)) 0 (length xs) ∙ each_places f xs)
 
 map_later : {A : Type 0} (g : ℕ → A) (a n : ℕ) → map g (range_with_len (suc a) n) ≡ map (λ k. g (suc k)) (range_with_len a n)
 map_later g a zero = refl
-map_later g a (suc n) = ap (λ l. g (suc a) ∷ l) (ap (λ b. map g (range_with_len b n)) (let e : suc a + 1 ≡ suc (a + 1) = omega arith in e) ∙ map_later g (a + 1) n)
+map_later g a (suc n) =
+    ap (λ l. g (suc a) ∷ l) (ap (λ b. map g (range_with_len b n)) (let e : suc a + 1 ≡ suc (a + 1) = omega arith in e) ∙ map_later g (a + 1) n)
 
 pub map_places : {A : Type 0} (f : ℕ → A) (xs : List ℕ) → map (λ k. f (slice_index xs k)) (below (length xs)) ≡ map f xs
 map_places f [] = refl
-map_places f (x ∷ xs) = ap (λ l. f x ∷ l) (ap (λ b. map (λ k. f (slice_index (x ∷ xs) k)) (range_with_len b (length xs))) (let e : 0 + 1 ≡ 1 = omega arith in e) ∙ map_later (λ k. f (slice_index (x ∷ xs) k)) 0 (length xs) ∙ map_places f xs)
+map_places f (x ∷ xs) = ap (λ l. f x ∷ l)
+    (ap (λ b. map (λ k. f (slice_index (x ∷ xs) k)) (range_with_len b (length xs))) (let e : 0 + 1 ≡ 1 = omega arith in e)
+    ∙ map_later (λ k. f (slice_index (x ∷ xs) k)) 0 (length xs) ∙ map_places f xs)
 
 -- ---- tests and lists that agree on a range
 
@@ -134,7 +144,8 @@ map_same_from : {A : Type 0} (f g : ℕ → A) (a n : ℕ) → ((k : ℕ) → f 
 map_same_from f g a zero same = refl
 map_same_from f g a (suc n) same = ap (λ x. x ∷ map f (range_with_len (a + 1) n)) (same a) ∙ ap (λ l. g a ∷ l) (map_same_from f g (a + 1) n same)
 
-pub run_in_front : {A : Type 0} (passes : ℕ → Bool) (f g : ℕ → A) (a m b : ℕ) → a ≤ m → m ≤ b → ((k : ℕ) → a ≤ k → k < m → passes k ≡ true) → ((k : ℕ) → g k ≡ f k)
+pub run_in_front : {A : Type 0} (passes : ℕ → Bool) (f g : ℕ → A) (a m b : ℕ) → a ≤ m
+    → m ≤ b → ((k : ℕ) → a ≤ k → k < m → passes k ≡ true) → ((k : ℕ) → g k ≡ f k)
     → run_of passes f a b ≡ map g (from_to a m) ++ run_of passes f m b
 run_in_front passes f g a m b order within all same =
     ap (λ l. map f (filter passes l)) (range_split a m b order within)

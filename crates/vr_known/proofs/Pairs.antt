@@ -1,5 +1,6 @@
 -- A pair that is put elsewhere: the same visits are active, and lists that do not hold it stay.
-use Rattle.std.proofs.Common.{◌≡◌, ◌≢◌, ◌∙◌, ℕ, zero, suc, ◌+◌, ◌<◌, ◌≤◌, Bool, true, false, not, cond, List, [], ◌∷◌, length, map, refl, sym, ap, ap₂, subst, inl, inr, arith}
+use Rattle.std.proofs.Common.{◌≡◌, ◌≢◌, ◌∙◌, ℕ, zero, suc, ◌+◌, ◌<◌, ◌≤◌, Bool, true, false, not, cond, List, [], ◌∷◌, length, map, refl, sym, ap, ap₂, subst}
+use Rattle.std.proofs.Common.{inl, inr, arith}
 use Rattle.std.specs.Prelude.{IsTrue, ◌&&◌, ◌||◌, ◌==◌, nat_lt, nat_le, filter}
 use Rattle.std.specs.List.{list_any, concat}
 use Rattle.std.proofs.lemmas.Bool.{cases_lt}
@@ -95,7 +96,8 @@ module _ (pair : Pair) where
       no_more false = refl
   holds_without (y ∷ ys) x = by (keeps y) refl (holds_without ys x)
     where
-      kept_one : keeps y ≡ true → holds (filter keeps ys) x ≡ (keeps x && holds ys x) → ((x == y) || holds (filter keeps ys) x) ≡ (keeps x && ((x == y) || holds ys x))
+      kept_one : keeps y ≡ true → holds (filter keeps ys) x ≡ (keeps x && holds ys x)
+          → ((x == y) || holds (filter keeps ys) x) ≡ (keeps x && ((x == y) || holds ys x))
       kept_one kept rest = elim (eqb_tells x y) [
         | inl same ↦ (
             let is : (x == y) ≡ true = test_of_eq x y same.1 in
@@ -132,11 +134,13 @@ module _ (pair : Pair) where
       both false a b = refl
 
   -- a list that does not hold the nodes of a pair, which stand in another
-  pub off_the_list : (lists : List (List ℕ)) (v u : ℕ) → ((x : ℕ) → times_in x lists ≤ 1) → IsTrue (holds (route lists v) pair.pickup) → IsTrue (holds (route lists v) pair.delivery)
+  pub off_the_list : (lists : List (List ℕ)) (v u : ℕ) → ((x : ℕ) → times_in x lists ≤ 1)
+      → IsTrue (holds (route lists v) pair.pickup) → IsTrue (holds (route lists v) pair.delivery)
       → u ≢ v → route (map (without_pair pair) lists) u ≡ route lists u
   off_the_list lists v u few picks delivers apart =
       route_map (without_pair pair) refl lists u
-      ∙ nothing_out pair (route lists u) (nowhere_else lists pair.pickup v u (few pair.pickup) picks apart) (nowhere_else lists pair.delivery v u (few pair.delivery) delivers apart)
+      ∙ nothing_out pair (route lists u) (nowhere_else lists pair.pickup v u (few pair.pickup) picks apart)
+      (nowhere_else lists pair.delivery v u (few pair.delivery) delivers apart)
 
 -- ---- pairs that are served
 
@@ -178,12 +182,14 @@ module _ (model : Model) (lists : List (List ℕ)) (p : ℕ) where
   serves h = serves_together (served_together h)
 
   -- the vehicle that holds the pickup is the one that holds both
-  pub delivers_too : ((x : ℕ) → times_in x lists ≤ 1) → Serves (pair_at model p) lists → (v : ℕ) → IsTrue (holds (route lists v) (pair_at model p).pickup) → IsTrue (holds (route lists v) (pair_at model p).delivery)
+  pub delivers_too : ((x : ℕ) → times_in x lists ≤ 1) → Serves (pair_at model p) lists → (v : ℕ)
+      → IsTrue (holds (route lists v) (pair_at model p).pickup) → IsTrue (holds (route lists v) (pair_at model p).delivery)
   delivers_too few at v picks = elim (cases_lt v at.vehicle) [
     | inl less ↦ absurd (twice (λ e. omega (arith, e, less)))
     | inr no_less ↦ elim (cases_lt at.vehicle v) [
       | inl more ↦ absurd (twice (λ e. omega (arith, e, more)))
-      | inr no_more ↦ (let same : at.vehicle ≡ v = omega (arith, no_less, no_more) in subst (λ u. IsTrue (holds (route lists u) (pair_at model p).delivery)) same at.delivers)
+      | inr no_more ↦ (let same : at.vehicle ≡ v = omega (arith, no_less, no_more) in
+          subst (λ u. IsTrue (holds (route lists u) (pair_at model p).delivery)) same at.delivers)
     ]
   ]
     where
@@ -227,7 +233,8 @@ module _ (model : Model) (lists : List (List ℕ)) (p : ℕ) where
         let at = serves served in
         elim (or_cases (x == pair.pickup) _ (is_one out)) [
           | inl here ↦ subst (λ y. IsTrue (is_active lists y)) (sym (eq_of_test x pair.pickup here)) (active_held lists pair.pickup at.vehicle at.low at.picks)
-          | inr here ↦ subst (λ y. IsTrue (is_active lists y)) (sym (eq_of_test x pair.delivery here)) (active_held lists pair.delivery at.vehicle at.low at.delivers)
+          | inr here ↦
+              subst (λ y. IsTrue (is_active lists y)) (sym (eq_of_test x pair.delivery here)) (active_held lists pair.delivery at.vehicle at.low at.delivers)
         ]
       where
         is_one : keeps pair x ≡ false → IsTrue ((x == pair.pickup) || (x == pair.delivery))

@@ -1,5 +1,6 @@
 -- Moves that are passed over one after the other.
-use Rattle.std.proofs.Common.{◌≡◌, ◌∙◌, ℕ, zero, suc, ◌+◌, ◌-◌, ◌<◌, ◌≤◌, ◌^◌, Bool, true, List, [], ◌∷◌, ◌++◌, length, map, refl, sym, ap, subst, false, arith, append_assoc, length-append, cond}
+use Rattle.std.proofs.Common.{◌≡◌, ◌∙◌, ℕ, zero, suc, ◌+◌, ◌-◌, ◌<◌, ◌≤◌, ◌^◌, Bool, true, List, [], ◌∷◌, ◌++◌, length, map, refl, sym, ap, subst, false, arith}
+use Rattle.std.proofs.Common.{append_assoc, length-append, cond}
 use Rattle.std.specs.Prelude.{min, Option, Some, None, IfSome, All, IsTrue, filter}
 use Rattle.std.specs.List.{range_with_len}
 use Rattle.std.proofs.lemmas.List.{append-nil, length-map, map-append}
@@ -24,11 +25,14 @@ capped_twice a b = Prim.grind arith
 module _ (covers : Move → Type 0) where
   -- no move was passed
   pub passes_none : (old : List Move) (count : ℕ) → count < 2 ^ 64 → Passes covers old count old count
-  passes_none old count low = record { passed = []; split = refl; covered = All-nil covers; counts = capped_small count low ∙ ap capped (let e : count ≡ count + 0 = omega arith in e) }
+  passes_none old count low =
+      record { passed = []; split = refl; covered = All-nil covers; counts = capped_small count low ∙ ap capped (let e : count ≡ count + 0 = omega arith in e) }
 
   -- all of them were
-  pub passes_all : (old : List Move) (count many counted : ℕ) → ArePassed covers old many → counted ≡ min (count + many) (2 ^ 64 - 1) → Passes covers old count [] counted
-  passes_all old count many counted h e = record { passed = old; split = sym (append-nil old); covered = h.covered; counts = e ∙ ap (λ n. capped (count + n)) (sym h.long) }
+  pub passes_all : (old : List Move) (count many counted : ℕ) → ArePassed covers old many
+      → counted ≡ min (count + many) (2 ^ 64 - 1) → Passes covers old count [] counted
+  passes_all old count many counted h e =
+      record { passed = old; split = sym (append-nil old); covered = h.covered; counts = e ∙ ap (λ n. capped (count + n)) (sym h.long) }
 
   -- more of them were passed
   pub passes_more : (a b c : List Move) (i j k : ℕ) → Passes covers a i b j → Passes covers b j c k → Passes covers a i c k
@@ -36,7 +40,8 @@ module _ (covers : Move → Type 0) where
     passed = p.passed ++ q.passed;
     split = p.split ∙ ap (λ l. p.passed ++ l) q.split ∙ sym (append_assoc p.passed q.passed c);
     covered = All-append covers p.passed q.passed p.covered q.covered;
-    counts = q.counts ∙ ap (λ n. capped (n + length q.passed)) p.counts ∙ capped_twice (i + length p.passed) (length q.passed) ∙ ap capped (sum i (length p.passed) (length q.passed) ∙ ap (λ n. i + n) (sym (length-append p.passed q.passed)));
+    counts = q.counts ∙ ap (λ n. capped (n + length q.passed)) p.counts ∙ capped_twice (i + length p.passed) (length q.passed)
+        ∙ ap capped (sum i (length p.passed) (length q.passed) ∙ ap (λ n. i + n) (sym (length-append p.passed q.passed)));
   }
     where
       sum : (x y z : ℕ) → (x + y) + z ≡ x + (y + z)
@@ -44,7 +49,8 @@ module _ (covers : Move → Type 0) where
 
   -- moves stand behind
   pub passes_in_front : (a b more : List Move) (i j : ℕ) → Passes covers a i b j → Passes covers (a ++ more) i (b ++ more) j
-  passes_in_front a b more i j p = record { passed = p.passed; split = ap (λ l. l ++ more) p.split ∙ append_assoc p.passed b more; covered = p.covered; counts = p.counts }
+  passes_in_front a b more i j p =
+      record { passed = p.passed; split = ap (λ l. l ++ more) p.split ∙ append_assoc p.passed b more; covered = p.covered; counts = p.counts }
 
   -- the lists are the same
   pub passes_as : (a b c : List Move) (i j : ℕ) → b ≡ c → Passes covers a i b j → Passes covers a i c j
@@ -65,7 +71,8 @@ module _ (covers : Move → Type 0) where
 
   -- the first of some moves, in front of others
   pub takes_in_front : (a b more : List Move) (i j : ℕ) (mv : Move) → Takes covers a i (Some mv) b j → Takes covers (a ++ more) i (Some mv) (b ++ more) j
-  takes_in_front a b more i j mv t = record { behind = t.behind ++ more; passes = passes_in_front a t.behind more i j t.passes; first = ap (λ l. l ++ more) t.first }
+  takes_in_front a b more i j mv t =
+      record { behind = t.behind ++ more; passes = passes_in_front a t.behind more i j t.passes; first = ap (λ l. l ++ more) t.first }
 
   -- none of the moves is left
   pub passes_to_end : (a b : List Move) (i j : ℕ) → Takes covers a i None b j → Passes covers a i [] j
@@ -78,7 +85,8 @@ module _ (covers : Move → Type 0) where
   run_covered p f a zero h = All-nil covers
   run_covered p f a (suc n) h = by (p a) (run_covered p f (a + 1) n (λ k low high. h k (omega (arith, low)) (omega (arith, high))))
     where
-      by : (t : Bool) → All covers (map f (filter p (range_with_len (a + 1) n))) → All covers (map f (cond t (a ∷ filter p (range_with_len (a + 1) n)) (filter p (range_with_len (a + 1) n))))
+      by : (t : Bool) → All covers (map f (filter p (range_with_len (a + 1) n)))
+          → All covers (map f (cond t (a ∷ filter p (range_with_len (a + 1) n)) (filter p (range_with_len (a + 1) n))))
       by true others = All-cons covers (f a) (map f (filter p (range_with_len (a + 1) n))) (h a (omega arith) (omega arith)) others
       by false others = others
 
@@ -88,7 +96,8 @@ module _ (covers : Move → Type 0) where
       → Passes covers (run_of p f a b) count (run_of p f m b) counted
   passes_run p f a m b count many counted order within each number counts = record {
     passed = run_of p f a m;
-    split = ap (λ l. map f (filter p l)) (range_split a m b order within) ∙ ap (map f) (filter-append p (from_to a m) (from_to m b)) ∙ map-append f (filter p (from_to a m)) (filter p (from_to m b));
+    split = ap (λ l. map f (filter p l)) (range_split a m b order within)
+        ∙ ap (map f) (filter-append p (from_to a m) (from_to m b)) ∙ map-append f (filter p (from_to a m)) (filter p (from_to m b));
     covered = run_covered p f a (m - a) (λ k low high. each k low (omega (arith, high, order)));
     counts = counts ∙ ap (λ n. capped (count + n)) (number ∙ sym (length-map (filter p (from_to a m)) f));
   }
@@ -108,15 +117,18 @@ capped_fits count n e = Prim.grind (arith, e)
 
 -- ---- joined lists that are opened one after the other
 
-module _ (covers : Move → Type 0) (passes : ℕ → Bool) (moves : ℕ → List Move) (a b : ℕ) (low : a < b) (opened : List Move) (is : opened ≡ cond (passes a) (moves a) []) {old : List Move} {start count : ℕ} (before : Passes covers old start (joined_of passes moves a b) count) where
+module _ (covers : Move → Type 0) (passes : ℕ → Bool) (moves : ℕ → List Move) (a b : ℕ) (low : a < b) (opened : List Move)
+    (is : opened ≡ cond (passes a) (moves a) []) {old : List Move} {start count : ℕ} (before : Passes covers old start (joined_of passes moves a b) count) where
   -- the first of them is in hand
   pub passes_opened : Passes covers old start (opened ++ joined_of passes moves (a + 1) b) count
   passes_opened =
       passes_more covers old _ _ start count count before
-      (passes_from covers _ _ _ count count (joined_opens passes moves a b opened low is) (passes_none covers (opened ++ joined_of passes moves (a + 1) b) count (capped_fits count _ before.counts)))
+      (passes_from covers _ _ _ count count (joined_opens passes moves a b opened low is)
+      (passes_none covers (opened ++ joined_of passes moves (a + 1) b) count (capped_fits count _ before.counts)))
 
   -- all of its moves were passed
-  pub passes_beyond : (many counted : ℕ) → ArePassed covers opened many → counted ≡ min (count + many) (2 ^ 64 - 1) → Passes covers old start (joined_of passes moves (a + 1) b) counted
+  pub passes_beyond : (many counted : ℕ) → ArePassed covers opened many
+      → counted ≡ min (count + many) (2 ^ 64 - 1) → Passes covers old start (joined_of passes moves (a + 1) b) counted
   passes_beyond many counted passed counts =
       passes_more covers old _ _ start count counted before
       (passes_from covers _ _ _ count counted (joined_opens passes moves a b opened low is)
@@ -144,6 +156,8 @@ pub covers_none : (memory : Memory) → ((kind : Neighbourhood) (v w : ℕ) → 
 covers_none memory none mv covered = clash (is_known memory (kind_of mv) (first_of mv) (second_of mv)) covered (none (kind_of mv) (first_of mv) (second_of mv))
 
 -- the moves of a block that is known are covered
-pub covers_known : (memory : Memory) (kind : Neighbourhood) (v w : ℕ) → IsTrue (is_known memory kind v w) → CoversBlock (λ mv. IsTrue (covers memory mv)) kind v w
+pub covers_known : (memory : Memory) (kind : Neighbourhood) (v w : ℕ)
+    → IsTrue (is_known memory kind v w) → CoversBlock (λ mv. IsTrue (covers memory mv)) kind v w
 covers_known memory kind v w known mv k f s =
-    subst (λ n. IsTrue (is_known memory n (first_of mv) (second_of mv))) (sym k) (subst (λ n. IsTrue (is_known memory kind n (second_of mv))) (sym f) (subst (λ n. IsTrue (is_known memory kind v n)) (sym s) known))
+    subst (λ n. IsTrue (is_known memory n (first_of mv) (second_of mv))) (sym k)
+    (subst (λ n. IsTrue (is_known memory kind n (second_of mv))) (sym f) (subst (λ n. IsTrue (is_known memory kind v n)) (sym s) known))

@@ -51,7 +51,8 @@ is_among kind [] = false
 is_among kind (n ∷ ns) = is_same_kind n kind || is_among kind ns
 
 -- each row has a place of its own among those of neighbourhoods
-one_place : (ns : List Neighbourhood) (k kind : Neighbourhood) (u row : ℕ) → IsTrue (is_among k ns) → IsTrue (is_among kind ns) → u < rows_of k → row < rows_of kind
+one_place : (ns : List Neighbourhood) (k kind : Neighbourhood) (u row : ℕ)
+    → IsTrue (is_among k ns) → IsTrue (is_among kind ns) → u < rows_of k → row < rows_of kind
     → rows_before k ns + u ≡ rows_before kind ns + row → (k ≡ kind) × (u ≡ row)
 one_place [] k kind u row among too low low_row same = absurd (false≢true among)
 one_place (n ∷ ns) k kind u row among too low low_row same =
@@ -83,7 +84,8 @@ each_among all.MakeInactive = refl
 each_among all.SwapActive = refl
 
 -- each row has a stamp of its own
-pub one_stamp : (k : Neighbourhood) (u : ℕ) (kind : Neighbourhood) (row : ℕ) → u < rows_of k → row < rows_of kind → stamp_of k u ≡ stamp_of kind row → (k ≡ kind) × (u ≡ row)
+pub one_stamp : (k : Neighbourhood) (u : ℕ) (kind : Neighbourhood) (row : ℕ) → u < rows_of k
+    → row < rows_of kind → stamp_of k u ≡ stamp_of kind row → (k ≡ kind) × (u ≡ row)
 one_stamp k u kind row low low_row same = one_place all_neighbourhoods k kind u row (each_among k) (each_among kind) low low_row same
 
 pub stamp_within : (kind : Neighbourhood) (row : ℕ) → row < rows_of kind → stamp_of kind row < 1504

@@ -7,12 +7,14 @@ use Rattle.vr_model.specs.moves.MoveTests.{is_move}
 use Rattle.vr_model.specs.routes.Routes.{holds, is_active, route}
 use Rattle.vr_model.specs.tables.Tables.{pair_at}
 use Rattle.vr_model.specs.declared.neighbours.Move.{Move}
-use Rattle.vr_model.specs.declared.neighbours.Move.TheVariants.{TwoOpt, OrOpt, Relocate, Exchange, Cross, RelocatePair, PairActive, PairInactive, MakeActive, MakeInactive, SwapActive}
+use Rattle.vr_model.specs.declared.neighbours.Move.TheVariants.{TwoOpt, OrOpt, Relocate, Exchange, Cross, RelocatePair, PairActive, PairInactive, MakeActive}
+use Rattle.vr_model.specs.declared.neighbours.Move.TheVariants.{MakeInactive, SwapActive}
 use Rattle.vr_model.specs.declared.records.Model.{Model}
 use Rattle.vr_model.proofs.moves.Times.{times_in}
 use Rattle.vr_model.proofs.routes.Lists.{held_at, route_set_other}
 use Rattle.vr_model.proofs.tables.Tests.{clash}
-use Rattle.vr_routes.proofs.FactLemmas.{is_served, of_cross, of_exchange, of_make_active, of_make_inactive, of_or_opt, of_pair_active, of_relocate, of_relocate_pair, of_swap_active, of_two_opt}
+use Rattle.vr_routes.proofs.FactLemmas.{is_served, of_cross, of_exchange, of_make_active, of_make_inactive, of_or_opt, of_pair_active, of_relocate}
+use Rattle.vr_routes.proofs.FactLemmas.{of_relocate_pair, of_swap_active, of_two_opt}
 use Rattle.vr_known.specs.Blocks.{first_of}
 use Rattle.vr_known.specs.Touching.{AreFound, named_by}
 use Rattle.vr_known.specs.declared.touched.Touched.{Touched}
@@ -102,7 +104,8 @@ module _ (model : Model) (lists : List (List ℕ)) where
       let pickup = (pair_at model p).pickup in
       let at = serves model lists p (served model lists p w s t h) in
       absurd (clash (nat_lt p (length model.pairs) && is_active lists pickup)
-      (and_both (nat_lt p (length model.pairs)) (is_active lists pickup) (and_left (nat_lt p (length model.pairs)) _ (is_served model lists p w s t h)) (active_held lists pickup at.vehicle at.low at.picks)) none)
+      (and_both (nat_lt p (length model.pairs)) (is_active lists pickup)
+      (and_left (nat_lt p (length model.pairs)) _ (is_served model lists p w s t h)) (active_held lists pickup at.vehicle at.low at.picks)) none)
   takes_out (TwoOpt v a b) h none = absurd (not_named none)
   takes_out (OrOpt v a k t) h none = absurd (not_named none)
   takes_out (Relocate v a w t) h none = absurd (not_named none)
@@ -113,10 +116,12 @@ module _ (model : Model) (lists : List (List ℕ)) where
   takes_out (MakeInactive v a) h none = absurd (not_named none)
   takes_out (SwapActive v a u) h none = absurd (not_named none)
 
-  pub pair_there : (mv : Move) → IsTrue (is_move model lists mv) → AreFound model lists mv None → (first_of mv < length model.pairs) × IsTrue (is_pair_together model lists (first_of mv))
+  pub pair_there : (mv : Move) → IsTrue (is_move model lists mv) → AreFound model lists mv None
+      → (first_of mv < length model.pairs) × IsTrue (is_pair_together model lists (first_of mv))
   pair_there mv h none =
       let out = takes_out mv h none in
-      subst (λ m. (first_of m < length model.pairs) × IsTrue (is_pair_together model lists (first_of m))) (sym out.1) (facts out.0 (subst (λ m. IsTrue (is_move model lists m)) out.1 h))
+      subst (λ m. (first_of m < length model.pairs) × IsTrue (is_pair_together model lists (first_of m)))
+      (sym out.1) (facts out.0 (subst (λ m. IsTrue (is_move model lists m)) out.1 h))
     where
       facts : (p : ℕ) → IsTrue (is_move model lists (PairInactive p)) → (p < length model.pairs) × IsTrue (is_pair_together model lists p)
       facts p h = let low : p < length model.pairs = Prim.grind arith in (low, and_right (nat_lt p (length model.pairs)) _ h)
@@ -126,5 +131,6 @@ module _ (model : Model) (lists : List (List ℕ)) where
       → (v : ℕ) → IsTrue (holds (route lists v) (pair_at model (first_of mv)).pickup) → (u : ℕ) → u ≢ v → route (apply model lists mv) u ≡ route lists u
   taken_out_stays few mv h none v serves u apart =
       let out = takes_out mv h none in
-      subst (λ m. IsTrue (is_move model lists m) → IsTrue (holds (route lists v) (pair_at model (first_of m)).pickup) → route (apply model lists m) u ≡ route lists u) (sym out.1)
+      subst (λ m. IsTrue (is_move model lists m) → IsTrue (holds (route lists v) (pair_at model (first_of m)).pickup)
+      → route (apply model lists m) u ≡ route lists u) (sym out.1)
       (λ moved held. pair_out_stays model lists few out.0 moved v held u apart) h serves

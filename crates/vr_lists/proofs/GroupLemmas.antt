@@ -41,7 +41,8 @@ two_apart (q ∷ qs) (suc j) (suc k) y before low few one other =
     two_apart qs j k y (omega (arith, before)) (omega (arith, low)) (omega (arith, few, all)) one other
 
 -- a node has the number of a group that it stands in
-pub number_at : (groups : List Group) (k y : ℕ) → times y (each groups nodes_in) ≤ 1 → k < length groups → IsTrue (holds (slice_index_or groups k no_group).nodes y)
+pub number_at : (groups : List Group) (k y : ℕ) → times y (each groups nodes_in) ≤ 1
+    → k < length groups → IsTrue (holds (slice_index_or groups k no_group).nodes y)
     → position_or_len (λ q. holds q.nodes y) groups ≡ k
 number_at groups k y few low held =
     position_or_len_is (λ q. holds q.nodes y) groups k no_group (omega (arith, low))
@@ -76,7 +77,8 @@ needed-number (q ∷ qs) y few low = by (holds q.nodes y) refl low (λ few_behin
 
     by : (b : Bool) → holds q.nodes y ≡ b → cond (not b) (1 + place) 0 < suc (length qs)
         → (times y (each qs nodes_in) ≤ 1 → place < length qs → list_any (is_needed y) qs ≡ not (is_penalty_given (slice_index_or qs place no_group).penalty))
-        → ((b && not (is_penalty_given q.penalty)) || list_any (is_needed y) qs) ≡ not (is_penalty_given (slice_index_or (q ∷ qs) (cond (not b) (1 + place) 0) no_group).penalty)
+        → ((b && not (is_penalty_given q.penalty)) || list_any (is_needed y) qs)
+        ≡ not (is_penalty_given (slice_index_or (q ∷ qs) (cond (not b) (1 + place) 0) no_group).penalty)
     by true e within behind =
         let some = held_times y q.nodes e in
         ap (λ b. not (is_penalty_given q.penalty) || b) (none_needed qs y (omega (arith, few, all, some))) ∙ or-none (not (is_penalty_given q.penalty))

@@ -1,5 +1,6 @@
 -- Numbers of nodes, as they are written from the last to the first.
-use Rattle.std.proofs.Common.{◌≡◌, ◌∙◌, ◌<◌, ◌≤◌, ◌+◌, ℕ, zero, suc, List, [], ◌∷◌, Bool, true, false, cond, not, refl, ap, sym, subst, inl, inr, arith, length, drop, get_or, replicate}
+use Rattle.std.proofs.Common.{◌≡◌, ◌∙◌, ◌<◌, ◌≤◌, ◌+◌, ℕ, zero, suc, List, [], ◌∷◌, Bool, true, false, cond, not, refl, ap, sym, subst, inl, inr, arith, length}
+use Rattle.std.proofs.Common.{drop, get_or, replicate}
 use Rattle.std.specs.Prelude.{◌==◌, ◌||◌, nat_lt, slice_get, slice_index_or, slice_set, Some, None, All}
 use Rattle.std.specs.List.{list_any, position_or_len}
 use Rattle.std.proofs.lemmas.Bool.Decides.{nat_tests}
@@ -48,7 +49,8 @@ none_passes p (x ∷ xs) fail =
 
 -- numbers below n do not hold others
 pub not_held : (xs : List ℕ) (n y : ℕ) → All (λ x. x < n) xs → n ≤ y → holds xs y ≡ false
-not_held xs n y below past = fails (holds xs y) (λ h. let at = place_of_held xs y h in let low = below at.0 0 at.1 in let is = at.2 in omega (arith, low, is, past))
+not_held xs n y below past =
+    fails (holds xs y) (λ h. let at = place_of_held xs y h in let low = below at.0 0 at.1 in let is = at.2 in omega (arith, low, is, past))
 
 -- a number that is no node is in no group
 pub no_node-group : (model : Model) → IsWellFormed model → (node : ℕ) → model.nodes ≤ node → group_number model node ≡ length model.groups
@@ -104,7 +106,8 @@ numbers_step p xs k n x old new more low is before written =
     ∙ ap (λ i. cond (p x) k i) (sym before))
 
 -- one number written over
-pub set_number : (numbers : List ℕ) (i y node : ℕ) → i < length numbers → node_number (slice_set numbers i y) node ≡ cond (i == node) y (node_number numbers node)
+pub set_number : (numbers : List ℕ) (i y node : ℕ) → i < length numbers
+    → node_number (slice_set numbers i y) node ≡ cond (i == node) y (node_number numbers node)
 set_number numbers i y node low = by (i == node) refl
   where
     by : (b : Bool) → (i == node) ≡ b → node_number (slice_set numbers i y) node ≡ cond b y (node_number numbers node)
@@ -126,7 +129,8 @@ set_two numbers i j y node low low_too =
     either false false n = refl
 
 -- marks of some vehicles among marks that were not set
-pub marks_written : (n : ℕ) (vehicles : List ℕ) (before after : List Bool) → All (λ v. v < n) vehicles → before ≡ replicate n false → length after ≡ length before
+pub marks_written : (n : ℕ) (vehicles : List ℕ) (before after : List Bool)
+    → All (λ v. v < n) vehicles → before ≡ replicate n false → length after ≡ length before
     → AreWritten before vehicles true after → (v : ℕ) → slice_index_or after v false ≡ holds vehicles v
 marks_written n vehicles before after within none count written v = elim (cases_lt v n) [
   | inl low ↦ (

@@ -54,7 +54,8 @@ serve_test p d n h g = grind (arith, nat_tests)
 
 -- how a pair is served, by the places of its nodes
 pub serves_pair-places : (list : List ℕ) (pair : Pair) → is_distinct list ≡ true
-    → serves_pair list pair ≡ cond (nat_lt (place_of list pair.pickup) (place_of list pair.delivery)) (nat_lt (place_of list pair.delivery) (length list)) (place_of list pair.delivery == length list)
+    → serves_pair list pair ≡ cond (nat_lt (place_of list pair.pickup) (place_of list pair.delivery))
+    (nat_lt (place_of list pair.delivery) (length list)) (place_of list pair.delivery == length list)
 serves_pair-places list pair d =
     (λ t. not (holds-place list pair.pickup t || holds-place list pair.delivery t) || comes_before-place list pair.pickup pair.delivery d t)
     ∙ serve_test (place_of list pair.pickup) (place_of list pair.delivery) (length list) (place_of-within list pair.pickup) (place_of-within list pair.delivery)
@@ -74,7 +75,8 @@ keeps_policy-places model v list =
     list_all-map (allows_beside policy (served_in list model.pairs)) (served_at list) (pairs_in model list)
     ∙ ap (λ f. list_all f (pairs_in model list)) (λ t x. beside policy x t)
   where
-    beside : (policy : Policy) (x : Pair) → allows_beside policy (served_in list model.pairs) (served_at list x) ≡ list_all (λ y. policy_allows policy list x y) (pairs_in model list)
+    beside : (policy : Policy) (x : Pair)
+        → allows_beside policy (served_in list model.pairs) (served_at list x) ≡ list_all (λ y. policy_allows policy list x y) (pairs_in model list)
     beside policy x =
         list_all-map (places_allow policy (served_at list x)) (served_at list) (pairs_in model list)
         ∙ ap (λ f. list_all f (pairs_in model list)) (λ t y. places_allow-is policy list x y t)
@@ -85,7 +87,8 @@ chosen-map false f x = refl
 
 -- one pair more
 pub served_in-more : (list : List ℕ) (pairs : List Pair) (k : ℕ) (d : Pair) → k < length pairs
-    → served_in list (take (k + 1) pairs) ≡ served_in list (take k pairs) ++ cond (holds list (get_or pairs k d).pickup) (served_at list (get_or pairs k d) ∷ []) []
+    → served_in list (take (k + 1) pairs)
+    ≡ served_in list (take k pairs) ++ cond (holds list (get_or pairs k d).pickup) (served_at list (get_or pairs k d) ∷ []) []
 served_in-more list pairs k d low =
     let there = λ (pair : Pair). holds list pair.pickup in
     ap (map (served_at list)) (filter_more there pairs k d low)
@@ -93,9 +96,11 @@ served_in-more list pairs k d low =
     ∙ ap (λ xs. served_in list (take k pairs) ++ xs) (chosen-map (there (get_or pairs k d)) (served_at list) (get_or pairs k d))
 
 -- the same at the values that code has
-module _ (list : List ℕ) (pair : Pair) (pickup delivery : ℕ) (at_pickup : pickup ≡ place_of list pair.pickup) (at_delivery : delivery ≡ place_of list pair.delivery) where
+module _ (list : List ℕ) (pair : Pair) (pickup delivery : ℕ) (at_pickup : pickup ≡ place_of list pair.pickup)
+    (at_delivery : delivery ≡ place_of list pair.delivery) where
   served_by : is_distinct list ≡ true → cond (nat_lt pickup delivery) (nat_lt delivery (length list)) (delivery == length list) ≡ serves_pair list pair
-  served_by d = (λ t. cond (nat_lt (at_pickup t) (at_delivery t)) (nat_lt (at_delivery t) (length list)) (at_delivery t == length list)) ∙ sym (serves_pair-places list pair d)
+  served_by d = (λ t. cond (nat_lt (at_pickup t) (at_delivery t)) (nat_lt (at_delivery t) (length list)) (at_delivery t == length list))
+      ∙ sym (serves_pair-places list pair d)
 
   pub serves-in_order : is_distinct list ≡ true → pickup < delivery → nat_lt delivery (length list) ≡ serves_pair list pair
   serves-in_order d h =
@@ -111,19 +116,23 @@ module _ (list : List ℕ) (pair : Pair) (pickup delivery : ℕ) (at_pickup : pi
     more : served_in list (take (k + 1) pairs) ≡ served_in list (take k pairs) ++ cond (holds list pair.pickup) (served_at list pair ∷ []) []
     more = served_in-more list pairs k pair low ∙ ap (λ p. served_in list (take k pairs) ++ cond (holds list p.pickup) (served_at list p ∷ []) []) (is pair)
 
-    pub served_in-there : pickup < length list → served_in list (take k pairs) ++ record { pickup = pickup; delivery = delivery } ∷ [] ≡ served_in list (take (k + 1) pairs)
+    pub served_in-there : pickup < length list
+        → served_in list (take k pairs) ++ record { pickup = pickup; delivery = delivery } ∷ [] ≡ served_in list (take (k + 1) pairs)
     served_in-there h =
-        let there : holds list pair.pickup ≡ true = holds-place list pair.pickup ∙ ap (λ p. nat_lt p (length list)) (sym at_pickup) ∙ (let e : nat_lt pickup (length list) ≡ true = grind (arith, nat_tests) in e) in
+        let there : holds list pair.pickup ≡ true = holds-place list pair.pickup ∙ ap (λ p. nat_lt p (length list)) (sym at_pickup)
+        ∙ (let e : nat_lt pickup (length list) ≡ true = grind (arith, nat_tests) in e) in
         ap (λ s. served_in list (take k pairs) ++ s ∷ []) (λ t. record { pickup = at_pickup t; delivery = at_delivery t })
         ∙ sym (more ∙ ap (λ b. served_in list (take k pairs) ++ cond b (served_at list pair ∷ []) []) there)
 
     pub served_in-absent : length list ≤ pickup → served_in list (take k pairs) ≡ served_in list (take (k + 1) pairs)
     served_in-absent h =
-        let absent : holds list pair.pickup ≡ false = holds-place list pair.pickup ∙ ap (λ p. nat_lt p (length list)) (sym at_pickup) ∙ (let e : nat_lt pickup (length list) ≡ false = grind (arith, nat_tests) in e) in
+        let absent : holds list pair.pickup ≡ false = holds-place list pair.pickup ∙ ap (λ p. nat_lt p (length list)) (sym at_pickup)
+        ∙ (let e : nat_lt pickup (length list) ≡ false = grind (arith, nat_tests) in e) in
         sym (more ∙ ap (λ b. served_in list (take k pairs) ++ cond b (served_at list pair ∷ []) []) absent ∙ append-nil (served_in list (take k pairs)))
 
 -- where the policy asks nothing, each two pairs keep it
 pub keeps-any : (model : Model) (v : ℕ) (list : List ℕ) → (vehicle_at model v).policy ≡ Any → keeps_policy model v list ≡ true
 keeps-any model v list e =
     ap (λ policy. list_all (λ x. list_all (λ y. policy_allows policy list x y) (pairs_in model list)) (pairs_in model list)) e
-    ∙ list_all-true (λ x. list_all (λ y. policy_allows Any list x y) (pairs_in model list)) (λ x. list_all-true (λ y. policy_allows Any list x y) (λ y. refl) (pairs_in model list)) (pairs_in model list)
+    ∙ list_all-true (λ x. list_all (λ y. policy_allows Any list x y) (pairs_in model list))
+    (λ x. list_all-true (λ y. policy_allows Any list x y) (λ y. refl) (pairs_in model list)) (pairs_in model list)

@@ -34,7 +34,14 @@ module _ (model : Model) (first : List (List ℕ)) (limit : Limit) where
   -- an event more changes no list and no number
   told_more : (event : Event) (rest : Outcome) → IsSoundAtLast model first limit rest → IsSoundAtLast model first limit (with_event event rest)
   told_more event rest a = let s = a.sound in record {
-    sound = record { best_valid = s.best_valid; last_valid = s.last_valid; no_dearer = s.no_dearer; tries = s.tries; some_solution = s.some_solution; solutions = s.solutions };
+    sound = record {
+      best_valid = s.best_valid;
+      last_valid = s.last_valid;
+      no_dearer = s.no_dearer;
+      tries = s.tries;
+      some_solution = s.some_solution;
+      solutions = s.solutions;
+    };
     last_is_best = a.last_is_best;
   }
 
@@ -43,7 +50,8 @@ module _ (model : Model) (first : List (List ℕ)) (limit : Limit) where
   goes_by state n s low = record { sound = sound_tried model first limit state n s.sound low; best = s.best }
 
   -- after a cut with a better result
-  is_made : (state : SearchState) (n : ℕ) (after : List (List ℕ)) → IsSoundAtBest state → n ≤ limit.tries - state.used → (state.found == limit.solutions) ≡ false
+  is_made : (state : SearchState) (n : ℕ) (after : List (List ℕ)) → IsSoundAtBest state
+      → n ≤ limit.tries - state.used → (state.found == limit.solutions) ≡ false
       → IsTrue (improves_on model state.lists after) → IsSoundAtBest (cut_made state n after)
   is_made state n after s low more better =
       let used = s.sound.tries in
@@ -76,7 +84,8 @@ module _ (model : Model) (most : ℕ) (first : List (List ℕ)) (limit : Limit) 
   goes_on rounds state sound more again Short h =
       ends model first limit (tried state (limit.tries - state.used)) _ (goes_by model first limit state (limit.tries - state.used) sound (omega arith))
 
-  sound_from : (rounds : ℕ) (state : SearchState) → IsSoundAtBest model first limit state → IsSoundAtLast model first limit (path_lns_from model most limit rounds state)
+  sound_from : (rounds : ℕ) (state : SearchState) → IsSoundAtBest model first limit state
+      → IsSoundAtLast model first limit (path_lns_from model most limit rounds state)
   unfolding path_lns_from
   sound_from zero state sound = ends model first limit state _ sound
   sound_from (suc rounds) state sound = go (state.found == limit.solutions) refl (sound_from rounds)

@@ -1,5 +1,6 @@
 -- What a round tells, and that the bound on rounds is never met.
-use Rattle.std.proofs.Common.{◌≡◌, ◌∙◌, ℕ, zero, suc, ◌+◌, ◌-◌, ◌<◌, ◌≤◌, Bool, true, false, cond, List, [], ◌∷◌, Option, Some, None, refl, sym, ap, arith, nat_lt, nat_le}
+use Rattle.std.proofs.Common.{◌≡◌, ◌∙◌, ℕ, zero, suc, ◌+◌, ◌-◌, ◌<◌, ◌≤◌, Bool, true, false, cond, List, [], ◌∷◌, Option, Some, None, refl, sym, ap, arith}
+use Rattle.std.proofs.Common.{nat_lt, nat_le}
 use Rattle.std.specs.Prelude.{◌==◌, IsTrue}
 use Rattle.vr_model.specs.search.Outcomes.{SearchState, Outcome, with_event, event_at, ended}
 use Rattle.vr_model.specs.declared.records.Model.{Model}
@@ -25,7 +26,8 @@ Tells P rest place (Accepted n after) = (place < n) × (n ≤ rest) × P after
 Tells P rest place (Complete n) = n ≤ rest
 Tells P rest place Short = Unit {0}
 
-module _ (accepted : Cut → Option (List (List ℕ))) (rest : ℕ) (P : List (List ℕ) → Type 0) (told : (c : Cut) (after : List (List ℕ)) → accepted c ≡ Some after → P after) where
+module _ (accepted : Cut → Option (List (List ℕ))) (rest : ℕ) (P : List (List ℕ) → Type 0)
+    (told : (c : Cut) (after : List (List ℕ)) → accepted c ≡ Some after → P after) where
   later : (place : ℕ) (r : Round) → Tells P rest (suc place) r → Tells P rest place r
   later place (Accepted n after) h = (let low = h.0 in omega (arith, low), h.1, h.2)
   later place (Complete n) h = h
@@ -43,12 +45,14 @@ module _ (accepted : Cut → Option (List (List ℕ))) (rest : ℕ) (P : List (L
       at after p true e = (omega arith, Prim.grind arith, p)
       at after p false e = tt
 
-      by : (o : Option (List (List ℕ))) → accepted c ≡ o → Tells P rest (suc place) (round_from (suc place) accepted rest cs) → Tells P rest place (ends_at place rest o (round_from (suc place) accepted rest cs))
+      by : (o : Option (List (List ℕ))) → accepted c ≡ o → Tells P rest (suc place) (round_from (suc place) accepted rest cs)
+          → Tells P rest place (ends_at place rest o (round_from (suc place) accepted rest cs))
       by None e behind = later place (round_from (suc place) accepted rest cs) behind
       by (Some after) e behind = at after (told c after e) (nat_le (suc place) rest) refl
 
 -- what the round of lists tells
-pub told_by_round : (model : Model) (most : ℕ) (lists : List (List ℕ)) (rest : ℕ) → Tells (λ after. IsTrue (improves_on model lists after)) rest 0 (round model most lists rest)
+pub told_by_round : (model : Model) (most : ℕ) (lists : List (List ℕ)) (rest : ℕ)
+    → Tells (λ after. IsTrue (improves_on model lists after)) rest 0 (round model most lists rest)
 told_by_round model most lists rest =
     round_tells (accepted_by model most lists) rest (λ after. IsTrue (improves_on model lists after)) (accepted_told model most lists) 0 (cuts lists)
 
@@ -60,7 +64,8 @@ module _ (model : Model) (most : ℕ) (limit : Limit) where
   round_of state = round model most state.lists (limit.tries - state.used)
 
   -- enough solutions were found
-  pub enough : (rounds : ℕ) (state : SearchState) → (state.found == limit.solutions) ≡ true → path_lns_from model most limit (suc rounds) state ≡ ended state Solutions
+  pub enough : (rounds : ℕ) (state : SearchState) → (state.found == limit.solutions) ≡ true
+      → path_lns_from model most limit (suc rounds) state ≡ ended state Solutions
   unfolding path_lns_from
   enough rounds state e = rw (e, path_lns_from) refl
 
@@ -74,19 +79,23 @@ module _ (model : Model) (most : ℕ) (limit : Limit) where
       → (state : SearchState) → limit.tries - state.used < suc rounds → (P : List (List ℕ) → Type 0) (r : Round) → Tells P (limit.tries - state.used) 0 r
       → after_round model limit again state r ≡ after_round model limit other state r
   same_after again other rounds same state few P (Accepted n after) h =
-      ap (with_event (event_at model (cut_made state n after) kind.Move)) (same (cut_made state n after) (let one = h.0 in let low = h.1 in omega (arith, one, low, few)))
+      ap (with_event (event_at model (cut_made state n after) kind.Move))
+      (same (cut_made state n after) (let one = h.0 in let low = h.1 in omega (arith, one, low, few)))
   same_after again other rounds same state few P (Complete n) h = refl
   same_after again other rounds same state few P Short h = refl
 
   -- a bound on the rounds that is above the number of tries left is never met: a greater one changes nothing
-  pub bound_unmet : (rounds more : ℕ) (state : SearchState) → limit.tries - state.used < rounds → path_lns_from model most limit (rounds + more) state ≡ path_lns_from model most limit rounds state
+  pub bound_unmet : (rounds more : ℕ) (state : SearchState) → limit.tries - state.used < rounds
+      → path_lns_from model most limit (rounds + more) state ≡ path_lns_from model most limit rounds state
   bound_unmet zero more state few = absurd (omega (arith, few))
   bound_unmet (suc rounds) more state few =
       let e : suc rounds + more ≡ suc (rounds + more) = omega arith in
       ap (λ n. path_lns_from model most limit n state) e ∙ go (λ next h. bound_unmet rounds more next h) (state.found == limit.solutions) refl
     where
-      go : ((next : SearchState) → limit.tries - next.used < rounds → path_lns_from model most limit (rounds + more) next ≡ path_lns_from model most limit rounds next)
-          → (b : Bool) → (state.found == limit.solutions) ≡ b → path_lns_from model most limit (suc (rounds + more)) state ≡ path_lns_from model most limit (suc rounds) state
+      go : ((next : SearchState) → limit.tries - next.used < rounds
+          → path_lns_from model most limit (rounds + more) next ≡ path_lns_from model most limit rounds next)
+          → (b : Bool) → (state.found == limit.solutions) ≡ b
+          → path_lns_from model most limit (suc (rounds + more)) state ≡ path_lns_from model most limit (suc rounds) state
       go same true e = enough (rounds + more) state e ∙ sym (enough rounds state e)
       go same false e = rounded (rounds + more) state e
           ∙ (same_after (path_lns_from model most limit (rounds + more)) (path_lns_from model most limit rounds) rounds same state few
@@ -96,7 +105,8 @@ module _ (model : Model) (most : ℕ) (limit : Limit) where
 -- ---- what the end of a round tells, as code tells it
 
 -- no more cuts were tried than could be
-pub tried_within : (P : List (List ℕ) → Type 0) (rest : ℕ) (r : Round) (ended : RoundEnd) → Tells P rest 0 r → ended ≡ round_end r → tries_in_round rest ended ≤ rest
+pub tried_within : (P : List (List ℕ) → Type 0) (rest : ℕ) (r : Round) (ended : RoundEnd)
+    → Tells P rest 0 r → ended ≡ round_end r → tries_in_round rest ended ≤ rest
 tried_within P rest (Accepted n after) ended h e = let low = h.1 in let same = ap (tries_in_round rest) e in omega (arith, low, same)
 tried_within P rest (Complete n) ended h e = let low = h in let same = ap (tries_in_round rest) e in omega (arith, low, same)
 tried_within P rest Short ended h e = let same = ap (tries_in_round rest) e in omega (arith, same)

@@ -33,7 +33,8 @@ held_in : (xs : List ℕ) (a b x k : ℕ) → b ≤ length xs → a ≤ k → k 
 held_in xs a b x k within from to found =
     let long = range_length xs a b within in
     let there : a + (k - a) ≡ k = omega (arith, from) in
-    held_at (slice_range xs a b) x (k - a) (omega (arith, long, from, to)) (in_range xs a b (k - a) (omega (arith, from, to)) ∙ ap (slice_index xs) there ∙ found)
+    held_at (slice_range xs a b) x (k - a) (omega (arith, long, from, to))
+    (in_range xs a b (k - a) (omega (arith, from, to)) ∙ ap (slice_index xs) there ∙ found)
 
 module _ (most : ℕ) (lists : List (List ℕ)) (at : Cut) (vehicle : at.vehicle < length lists) (node : ℕ) where
   short : chain_end most lists at ≤ length (route lists at.vehicle)
@@ -47,14 +48,17 @@ module _ (most : ℕ) (lists : List (List ℕ)) (at : Cut) (vehicle : at.vehicle
       clash (is_active lists node) (active_at lists node at.vehicle p.0 vehicle (omega (arith, low, short)) p.3) nowhere))
 
   -- a node stands in the chain where its seat lies there
-  pub by_seat : (seat : Seat) → IsOnce lists → IsSeat lists node seat.vehicle seat.place → is_between at (chain_end most lists at) seat ≡ holds (cut_chain most lists at) node
+  pub by_seat : (seat : Seat) → IsOnce lists → IsSeat lists node seat.vehicle seat.place
+      → is_between at (chain_end most lists at) seat ≡ holds (cut_chain most lists at) node
   by_seat seat once stands = same_tests (is_between at (chain_end most lists at) seat) (holds (cut_chain most lists at) node) held there
     where
       held : IsTrue (is_between at (chain_end most lists at) seat) → IsTrue (holds (cut_chain most lists at) node)
       held h =
-          let same : seat.vehicle ≡ at.vehicle = eq_of_test seat.vehicle at.vehicle (and_left (seat.vehicle == at.vehicle) _ (and_left ((seat.vehicle == at.vehicle) && nat_le at.place seat.place) _ h)) in
+          let same : seat.vehicle ≡ at.vehicle = eq_of_test seat.vehicle at.vehicle
+          (and_left (seat.vehicle == at.vehicle) _ (and_left ((seat.vehicle == at.vehicle) && nat_le at.place seat.place) _ h)) in
           let both = and_left ((seat.vehicle == at.vehicle) && nat_le at.place seat.place) _ h in
-          held_in (route lists at.vehicle) at.place (chain_end most lists at) node seat.place short (nat_of_test at.place seat.place (and_right (seat.vehicle == at.vehicle) _ both))
+          held_in (route lists at.vehicle) at.place (chain_end most lists at) node seat.place
+          short (nat_of_test at.place seat.place (and_right (seat.vehicle == at.vehicle) _ both))
           (lt_of_test seat.place (chain_end most lists at) (and_right ((seat.vehicle == at.vehicle) && nat_le at.place seat.place) _ h))
           (ap (λ v. slice_index (route lists v) seat.place) (sym same) ∙ stands.found)
 
@@ -66,7 +70,8 @@ module _ (most : ℕ) (lists : List (List ℕ)) (at : Cut) (vehicle : at.vehicle
           let same = once node seat.vehicle seat.place at.vehicle p.0 stands (record { vehicle = vehicle; place = omega (arith, low, short); found = p.3 }) in
           let place = same.1 in
           and_both ((seat.vehicle == at.vehicle) && nat_le at.place seat.place) _
-          (and_both (seat.vehicle == at.vehicle) _ (test_of_eq seat.vehicle at.vehicle same.0) (test_of_le_nat at.place seat.place (omega (arith, from, place))))
+          (and_both (seat.vehicle == at.vehicle) _ (test_of_eq seat.vehicle at.vehicle same.0)
+          (test_of_le_nat at.place seat.place (omega (arith, from, place))))
           (test_of_lt seat.place (chain_end most lists at) (omega (arith, low, place)))
         where
           test_of_le_nat : (m n : ℕ) → m ≤ n → IsTrue (nat_le m n)

@@ -6,7 +6,8 @@ use Rattle.vr_lns.specs.Cuts.{accepted_by, improves_on, result_of, where_better}
 use Rattle.vr_lns.specs.declared.cutting.Cut.{Cut}
 
 -- what is accepted of a result is the result, and it is better
-better_told : (model : Model) (lists : List (List ℕ)) (result : Option (List (List ℕ))) (after : List (List ℕ)) → where_better model lists result ≡ Some after → IsTrue (improves_on model lists after)
+better_told : (model : Model) (lists : List (List ℕ)) (result : Option (List (List ℕ))) (after : List (List ℕ))
+    → where_better model lists result ≡ Some after → IsTrue (improves_on model lists after)
 better_told model lists None after e = absurd (no e)
   where
     no : None ≡ Some after → ⊥
@@ -27,6 +28,7 @@ module _ (model : Model) (most : ℕ) (lists : List (List ℕ)) (at : Cut) where
   accepted_told after e = better_told model lists (result_of model most lists at) after e
 
   -- what is accepted of the result of a cut is what is accepted of the cut
-  pub accepted_is : (result : Option (List (List ℕ))) → result ≡ result_of model most lists at → where_better model lists result ≡ accepted_by model most lists at
+  pub accepted_is : (result : Option (List (List ℕ))) → result ≡ result_of model most lists at
+      → where_better model lists result ≡ accepted_by model most lists at
   unfolding accepted_by
   accepted_is result e = ap (where_better model lists) e

@@ -29,7 +29,11 @@ module _ (stays : ℕ → Bool) where
 
   module _ (model : Model) (lists : List (List ℕ)) (are : IsTrue (are_lists model lists)) where
     few_left : (x : ℕ) → times x (concat (map (filter stays) lists)) ≤ 1
-    few_left x = let same = joined_times x (map (filter stays) lists) in let less = fewer x lists in let one = few model lists are x in omega (arith, same, less, one)
+    few_left x =
+        let same = joined_times x (map (filter stays) lists) in
+        let less = fewer x lists in
+        let one = few model lists are x in
+        omega (arith, same, less, one)
 
     visit_left : (x : ℕ) → IsTrue (holds (concat (map (filter stays) lists)) x) → IsTrue (is_visit model x)
     visit_left x held =
@@ -37,25 +41,31 @@ module _ (stays : ℕ → Bool) where
         let less = fewer x lists in
         let some = held_times x (concat (map (filter stays) lists)) held in
         let before = joined_times x lists in
-        all_held (is_visit model) (concat lists) (and_left (list_all (is_visit model) (concat lists)) _ (and_right (length lists == length model.vehicles) _ are)) x
+        all_held (is_visit model) (concat lists)
+        (and_left (list_all (is_visit model) (concat lists)) _ (and_right (length lists == length model.vehicles) _ are)) x
         (times_held x (concat lists) (omega (arith, same, less, some, before)))
 
     -- what is left of lists of the model are lists of the model
     pub lists_left : IsTrue (are_lists model (map (filter stays) lists))
     lists_left = and_both (length (map (filter stays) lists) == length model.vehicles) _
-        (test_of_eq (length (map (filter stays) lists)) (length model.vehicles) (length-map lists (filter stays) ∙ eq_of_test (length lists) (length model.vehicles) (and_left (length lists == length model.vehicles) _ are)))
-        (and_both (list_all (is_visit model) (concat (map (filter stays) lists))) _ (all_of_held (is_visit model) (concat (map (filter stays) lists)) visit_left) (distinct_of_times (concat (map (filter stays) lists)) few_left))
+        (test_of_eq (length (map (filter stays) lists)) (length model.vehicles)
+        (length-map lists (filter stays) ∙ eq_of_test (length lists) (length model.vehicles) (and_left (length lists == length model.vehicles) _ are)))
+        (and_both (list_all (is_visit model) (concat (map (filter stays) lists))) _
+        (all_of_held (is_visit model) (concat (map (filter stays) lists)) visit_left) (distinct_of_times (concat (map (filter stays) lists)) few_left))
 
 -- what a cut leaves are lists of the model
-pub left_are_lists : (cut : CutOf) → are_lists cut.lookups.now.closed.model.now (left_by cut.lookups.now.closed.model.now cut.most cut.routes.now.lists cut.at) ≡ true
+pub left_are_lists : (cut : CutOf)
+    → are_lists cut.lookups.now.closed.model.now (left_by cut.lookups.now.closed.model.now cut.most cut.routes.now.lists cut.at) ≡ true
 left_are_lists cut =
     let chain = cut_chain cut.most cut.routes.now.lists cut.at in
-    lists_left (λ node. not (goes_with chain node (pair_of cut.lookups.now.closed.model.now node))) cut.lookups.now.closed.model.now cut.routes.now.lists cut.lists
+    lists_left (λ node. not (goes_with chain node (pair_of cut.lookups.now.closed.model.now node)))
+    cut.lookups.now.closed.model.now cut.routes.now.lists cut.lists
 
 -- ---- list by list
 
 -- what is left of the next list
-pub left_more : (f : List ℕ → List ℕ) (lists : List (List ℕ)) (v : ℕ) → v < length lists → take (v + 1) (map f lists) ≡ take v (map f lists) ++ f (route lists v) ∷ []
+pub left_more : (f : List ℕ → List ℕ) (lists : List (List ℕ)) (v : ℕ) → v < length lists
+    → take (v + 1) (map f lists) ≡ take v (map f lists) ++ f (route lists v) ∷ []
 left_more f lists v low =
     let many = length-map lists f in
     (take_at_read (map f lists) v [] (omega (arith, low, many))).1 ∙ ap (λ l. take v (map f lists) ++ l ∷ []) (get_or-map f lists v [] [] low)

@@ -23,19 +23,22 @@ use Rattle.vr_lns.proofs.RoundLemmas.{completed, ran_short}
 use Rattle.vr_lns.proofs.SearchLemmas.{ends_as, from_here, left_after, standing}
 
 -- where a search stands after a round, and what is left of it
-pub record RoundGave {W : Type 0} (after : W → List Event → List ℕ) (whole : Outcome) (model : Model) (most : ℕ) (limit : Limit) (lists later : List (List ℕ)) (at now : Progress) (old new : List W) (r : Round) : Type 0 where
+pub record RoundGave {W : Type 0} (after : W → List Event → List ℕ) (whole : Outcome) (model : Model) (most : ℕ)
+    (limit : Limit) (lists later : List (List ℕ)) (at now : Progress) (old new : List W) (r : Round) : Type 0 where
   pub at_is : now ≡ standing_after model limit at r
   pub lists_are : later ≡ lists_after_round lists r
   pub goes : Goes after whole (left_after model most limit lists at.used at.found r) old new
 
 -- a cut was made within the tries that were left, and the search goes on from there
-pub record CutMade {W : Type 0} (after : W → List Event → List ℕ) (whole : Outcome) (model : Model) (most : ℕ) (limit : Limit) (later : List (List ℕ)) (at now : Progress) (old new : List W) : Type 0 where
+pub record CutMade {W : Type 0} (after : W → List Event → List ℕ) (whole : Outcome) (model : Model)
+    (most : ℕ) (limit : Limit) (later : List (List ℕ)) (at now : Progress) (old new : List W) : Type 0 where
   pub falls : limit.tries - now.used < limit.tries - at.used
   pub used : now.used ≤ limit.tries
   pub found : now.found ≡ at.found + 1
   pub goes : Goes after whole (from_here model most limit later now.used now.found) old new
 
-module _ {W : Type 0} (after : W → List Event → List ℕ) (whole : Outcome) (model : Model) (most : ℕ) (limit : Limit) (lists later : List (List ℕ)) (at now : Progress) (old new : List W) where
+module _ {W : Type 0} (after : W → List Event → List ℕ) (whole : Outcome) (model : Model) (most : ℕ)
+    (limit : Limit) (lists later : List (List ℕ)) (at now : Progress) (old new : List W) where
   abbrev Gave : Round → Type 0
   Gave r = RoundGave after whole model most limit lists later at now old new r
 
@@ -46,7 +49,8 @@ module _ {W : Type 0} (after : W → List Event → List ℕ) (whole : Outcome) 
     pub cut_made : (place : ℕ) → told ≡ ends.Accepted place → CutMade after whole model most limit later at now old new
     cut_made place is =
         let made = made_told here place (sym is ∙ ends_so) in
-        let tells = subst (Tells (λ found. IsTrue (improves_on model lists found)) (limit.tries - at.used) 0) made.1 (told_by_round model most lists (limit.tries - at.used)) in
+        let tells = subst (Tells (λ found. IsTrue (improves_on model lists found)) (limit.tries - at.used) 0)
+        made.1 (told_by_round model most lists (limit.tries - at.used)) in
         let so = subst Gave made.1 gave in
         let one = tells.0 in
         let within = tells.1 in
@@ -68,7 +72,8 @@ module _ {W : Type 0} (after : W → List Event → List ℕ) (whole : Outcome) 
         (ends_as after whole (tried (standing model most limit lists at.used at.found) n) Optimum old new so.goes))
 
     -- .. and where the tries ran out
-    pub ends_short : at.used ≤ limit.tries → told ≡ ends.Short → (report : Report) → report ≡ report_of now Tries → SearchEndsAs after whole later old new report
+    pub ends_short : at.used ≤ limit.tries → told ≡ ends.Short → (report : Report)
+        → report ≡ report_of now Tries → SearchEndsAs after whole later old new report
     ends_short used is report report_is =
         let so = subst Gave (ran_short here (sym is ∙ ends_so)) gave in
         let all : at.used + (limit.tries - at.used) ≡ limit.tries = omega (arith, used) in

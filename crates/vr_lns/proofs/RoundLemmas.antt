@@ -1,5 +1,6 @@
 -- A round of cuts, cut by cut and list by list.
-use Rattle.std.proofs.Common.{◌≡◌, ◌∙◌, ℕ, suc, ◌+◌, ◌<◌, ◌≤◌, Bool, true, false, cond, List, [], ◌∷◌, ◌++◌, Option, Some, None, refl, sym, ap, arith, nat_lt, nat_le}
+use Rattle.std.proofs.Common.{◌≡◌, ◌∙◌, ℕ, suc, ◌+◌, ◌<◌, ◌≤◌, Bool, true, false, cond, List, [], ◌∷◌, ◌++◌, Option, Some, None, refl, sym, ap, arith, nat_lt}
+use Rattle.std.proofs.Common.{nat_le}
 use Rattle.std.specs.Prelude.{map}
 use Rattle.vr_model.specs.tables.Numbers.{from_to}
 use Rattle.vr_model.proofs.tables.Ranges.{walk_opens}
@@ -15,7 +16,8 @@ abbrev pub cut_at : ℕ → ℕ → Cut
 cut_at v a = record { vehicle = v; place = a }
 
 -- the cut that comes next in the list of a vehicle, and those behind it
-pub next_cut : {A : Type 0} (f : List Cut → A) (v n a : ℕ) (whole : A) → f (map (cut_at v) (from_to a n)) ≡ whole → a < n → f (cut_at v a ∷ map (cut_at v) (from_to (a + 1) n)) ≡ whole
+pub next_cut : {A : Type 0} (f : List Cut → A) (v n a : ℕ) (whole : A)
+    → f (map (cut_at v) (from_to a n)) ≡ whole → a < n → f (cut_at v a ∷ map (cut_at v) (from_to (a + 1) n)) ≡ whole
 next_cut f v n a whole left low = walk_opens (λ xs. f (map (cut_at v) xs)) n a left low
 
 -- a result that is taken over is there, and one that is not is not
@@ -41,13 +43,15 @@ round_behind accepted rest cs Short = Short
 
 module _ (accepted : Cut → Option (List (List ℕ))) (rest : ℕ) where
   -- a cut that may not be tried any more changes nothing where the tries run out behind it
-  untried : (place : ℕ) (c : Cut) (cs : List Cut) → rest ≤ place → round_from (suc place) accepted rest cs ≡ Short → round_from place accepted rest (c ∷ cs) ≡ Short
+  untried : (place : ℕ) (c : Cut) (cs : List Cut) → rest ≤ place
+      → round_from (suc place) accepted rest cs ≡ Short → round_from place accepted rest (c ∷ cs) ≡ Short
   untried place c cs far = go (accepted c)
     where
       here : nat_le (suc place) rest ≡ false
       here = Prim.grind arith
 
-      go : (o : Option (List (List ℕ))) → round_from (suc place) accepted rest cs ≡ Short → ends_at place rest o (round_from (suc place) accepted rest cs) ≡ Short
+      go : (o : Option (List (List ℕ))) → round_from (suc place) accepted rest cs ≡ Short
+          → ends_at place rest o (round_from (suc place) accepted rest cs) ≡ Short
       go None e = e
       go (Some after) e = ap (λ b. cond b (Accepted (suc place) after) Short) here
 
@@ -64,20 +68,24 @@ module _ (accepted : Cut → Option (List (List ℕ))) (rest : ℕ) where
   short_here place c cs e = untried place c cs (omega (arith, e)) (short_behind (suc place) cs (omega (arith, e)))
 
   -- the next cut is acceptable, and may be tried
-  accepted_here : (place : ℕ) (c : Cut) (cs : List Cut) (after : List (List ℕ)) → place < rest → accepted c ≡ Some after → round_from place accepted rest (c ∷ cs) ≡ Accepted (place + 1) after
+  accepted_here : (place : ℕ) (c : Cut) (cs : List Cut) (after : List (List ℕ)) → place < rest
+      → accepted c ≡ Some after → round_from place accepted rest (c ∷ cs) ≡ Accepted (place + 1) after
   accepted_here place c cs after low e =
       let one : suc place ≡ place + 1 = omega arith in
-      ap (λ o. ends_at place rest o (round_from (suc place) accepted rest cs)) e ∙ ap (λ b. cond b (Accepted (suc place) after) Short) here ∙ ap (λ n. Accepted n after) one
+      ap (λ o. ends_at place rest o (round_from (suc place) accepted rest cs)) e
+      ∙ ap (λ b. cond b (Accepted (suc place) after) Short) here ∙ ap (λ n. Accepted n after) one
     where
       here : nat_le (suc place) rest ≡ true
       here = Prim.grind arith
 
-  pub taken_here : (place : ℕ) (c : Cut) (cs : List Cut) (whole : Round) → round_from place accepted rest (c ∷ cs) ≡ whole → place < rest → is_taken_over (accepted c) ≡ true
+  pub taken_here : (place : ℕ) (c : Cut) (cs : List Cut) (whole : Round)
+      → round_from place accepted rest (c ∷ cs) ≡ whole → place < rest → is_taken_over (accepted c) ≡ true
       → (after : List (List ℕ)) × (accepted c ≡ Some after) × (whole ≡ Accepted (place + 1) after)
   taken_here place c cs whole e low h = let t = taken_told (accepted c) h in (t.0, t.1, sym e ∙ accepted_here place c cs t.0 low t.1)
 
   -- the next cut is not
-  pub passed_here : (place : ℕ) (c : Cut) (cs : List Cut) → accepted c ≡ None → round_from place accepted rest (c ∷ cs) ≡ round_from (place + 1) accepted rest cs
+  pub passed_here : (place : ℕ) (c : Cut) (cs : List Cut) → accepted c ≡ None
+      → round_from place accepted rest (c ∷ cs) ≡ round_from (place + 1) accepted rest cs
   passed_here place c cs e = let one : suc place ≡ place + 1 = omega arith in
       ap (λ o. ends_at place rest o (round_from (suc place) accepted rest cs)) e ∙ ap (λ n. round_from n accepted rest cs) one
 
@@ -89,7 +97,8 @@ module _ (accepted : Cut → Option (List (List ℕ))) (rest : ℕ) where
       is_near low = Prim.grind arith
 
   -- some cuts, and then others
-  pub round_both : (place : ℕ) (cs ds : List Cut) → round_from place accepted rest (cs ++ ds) ≡ round_behind accepted rest ds (round_from place accepted rest cs)
+  pub round_both : (place : ℕ) (cs ds : List Cut)
+      → round_from place accepted rest (cs ++ ds) ≡ round_behind accepted rest ds (round_from place accepted rest cs)
   round_both place [] ds = by (nat_lt rest place) refl
     where
       by : (b : Bool) → nat_lt rest place ≡ b → round_from place accepted rest ds ≡ round_behind accepted rest ds (cond b Short (Complete place))
@@ -97,17 +106,21 @@ module _ (accepted : Cut → Option (List (List ℕ))) (rest : ℕ) where
       by false near = refl
   round_both place (c ∷ cs) ds = by (accepted c) (round_both (suc place) cs ds)
     where
-      shut : (after : List (List ℕ)) (b : Bool) → cond b (Accepted (suc place) after) Short ≡ round_behind accepted rest ds (cond b (Accepted (suc place) after) Short)
+      shut : (after : List (List ℕ)) (b : Bool)
+          → cond b (Accepted (suc place) after) Short ≡ round_behind accepted rest ds (cond b (Accepted (suc place) after) Short)
       shut after true = refl
       shut after false = refl
 
-      by : (o : Option (List (List ℕ))) → round_from (suc place) accepted rest (cs ++ ds) ≡ round_behind accepted rest ds (round_from (suc place) accepted rest cs)
-          → ends_at place rest o (round_from (suc place) accepted rest (cs ++ ds)) ≡ round_behind accepted rest ds (ends_at place rest o (round_from (suc place) accepted rest cs))
+      by : (o : Option (List (List ℕ)))
+          → round_from (suc place) accepted rest (cs ++ ds) ≡ round_behind accepted rest ds (round_from (suc place) accepted rest cs)
+          → ends_at place rest o (round_from (suc place) accepted rest (cs ++ ds))
+          ≡ round_behind accepted rest ds (ends_at place rest o (round_from (suc place) accepted rest cs))
       by None e = e
       by (Some after) e = shut after (nat_le (suc place) rest)
 
   -- a round that is not at the end of some cuts has ended
-  pub behind_none : (ds : List Cut) (r : Round) (ended : RoundEnd) → ended ≡ round_end r → ((n : ℕ) → ended ≡ ends.Complete n → ⊥) → round_behind accepted rest ds r ≡ r
+  pub behind_none : (ds : List Cut) (r : Round) (ended : RoundEnd) → ended ≡ round_end r
+      → ((n : ℕ) → ended ≡ ends.Complete n → ⊥) → round_behind accepted rest ds r ≡ r
   behind_none ds (Accepted n after) ended e h = refl
   behind_none ds (Complete n) ended e h = absurd (h n e)
   behind_none ds Short ended e h = refl

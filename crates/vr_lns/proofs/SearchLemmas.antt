@@ -42,17 +42,22 @@ module _ (model : Model) (most : ℕ) (limit : Limit) where
     left_after Short = ended (tried (standing lists used found) (limit.tries - used)) Tries
 
     -- the search is the events of a round, and what is left after it
-    pub on_round : (found == limit.solutions) ≡ false → from_here lists used found ≡ behind (round_events model used (round_at model most limit lists used)) (left_after (round_at model most limit lists used))
-    on_round e = rounded model most limit (limit.tries - used) (standing lists used found) e ∙ go (round_at model most limit lists used) (told_by_round model most lists (limit.tries - used))
+    pub on_round : (found == limit.solutions) ≡ false → from_here lists used found
+        ≡ behind (round_events model used (round_at model most limit lists used)) (left_after (round_at model most limit lists used))
+    on_round e = rounded model most limit (limit.tries - used) (standing lists used found) e
+        ∙ go (round_at model most limit lists used) (told_by_round model most lists (limit.tries - used))
       where
         go : (r : Round) → Tells (λ after. IsTrue (improves_on model lists after)) (limit.tries - used) 0 r
-            → after_round model limit (path_lns_from model most limit (limit.tries - used)) (standing lists used found) r ≡ behind (round_events model used r) (left_after r)
-        go (Accepted n after) h = ap (with_event (cut_event model after (used + n))) (ap (path_lns_from model most limit (limit.tries - used)) same ∙ fewer h.0 h.1)
+            → after_round model limit (path_lns_from model most limit (limit.tries - used)) (standing lists used found) r
+            ≡ behind (round_events model used r) (left_after r)
+        go (Accepted n after) h =
+            ap (with_event (cut_event model after (used + n))) (ap (path_lns_from model most limit (limit.tries - used)) same ∙ fewer h.0 h.1)
           where
             same : cut_made (standing lists used found) n after ≡ standing after (used + n) (found + 1)
             same = let one : suc found ≡ found + 1 = omega arith in ap (standing after (used + n)) one
 
-            fewer : 0 < n → n ≤ limit.tries - used → path_lns_from model most limit (limit.tries - used) (standing after (used + n) (found + 1)) ≡ from_here after (used + n) (found + 1)
+            fewer : 0 < n → n ≤ limit.tries - used
+                → path_lns_from model most limit (limit.tries - used) (standing after (used + n) (found + 1)) ≡ from_here after (used + n) (found + 1)
             fewer one low = let rounds = suc (limit.tries - (used + n)) in let more = (limit.tries - used) - suc (limit.tries - (used + n)) in
                 let sum : limit.tries - used ≡ rounds + more = omega (arith, one, low) in
                 ap (λ k. path_lns_from model most limit k (standing after (used + n) (found + 1))) sum
@@ -68,11 +73,13 @@ module _ (model : Model) (most : ℕ) (limit : Limit) where
 
 module _ {W : Type 0} (after : W → List Event → List ℕ) (whole : Outcome) where
   -- the next events are told, and another outcome is left
-  pub goes_on : (rest next : Outcome) (events : List Event) (a b c : List W) → rest ≡ behind events next → Goes after whole rest a b → Reported after b c events → Goes after whole next a c
+  pub goes_on : (rest next : Outcome) (events : List Event) (a b c : List W) → rest ≡ behind events next
+      → Goes after whole rest a b → Reported after b c events → Goes after whole next a c
   goes_on rest next events a b c e g t = goes_more after whole next events a b c (goes_as after whole rest (behind events next) a b e g) t
 
   -- the search breaks off where it tells the next events
-  pub breaks_off_at : (rest next : Outcome) (events : List Event) (a b c : List W) → rest ≡ behind events next → Goes after whole rest a b → ReportedInPart after b c events → ReportedInPart after a c whole.events
+  pub breaks_off_at : (rest next : Outcome) (events : List Event) (a b c : List W) → rest ≡ behind events next
+      → Goes after whole rest a b → ReportedInPart after b c events → ReportedInPart after a c whole.events
   breaks_off_at rest next events a b c e g p = breaks_off after whole next events a b c (goes_as after whole rest (behind events next) a b e g) p
 
   -- nothing more is told

@@ -112,7 +112,8 @@ module _ (line : Line) (f : ℕ → ℤ) (nodes : List ℕ) (capacity : ℤ) (is
         start_of_each_break = sym none;
         cumuls_allowed = λ k low. allowed_at k (let n = is.stops in omega (arith, low, n));
         slacks_left = λ k low. left k (let n = is.arcs in omega (arith, low, n));
-        slacks_bounded = λ k low. (let s = slack_at nodes k in omega (arith, ints, s), (let s = slack_at nodes k in let t = is.tight in omega (arith, ints, s, t)));
+        slacks_bounded =
+            λ k low. (let s = slack_at nodes k in omega (arith, ints, s), (let s = slack_at nodes k in let t = is.tight in omega (arith, ints, s, t)));
         breaks_in_range = λ i low. absurd (omega (arith, low, none));
         breaks_in_order = λ i low. absurd (omega (arith, low, none));
         breaks_placed = λ i low. absurd (omega (arith, low, none));
@@ -132,5 +133,6 @@ module _ (line : Line) (f : ℕ → ℤ) (nodes : List ℕ) (capacity : ℤ) (is
         carries : (k : ℕ) → break_time line sums k ≤ℤ number_at (no_slacks nodes) k
         carries k =
             let s = slack_at nodes k in
-            let none_at_all : break_time line sums k ≡ pos 0 = over_none (λ i. cond (is_inside line sums i k) (break_at line i).duration (pos 0)) (length line.breaks) none in
+            let none_at_all : break_time line sums k ≡ pos 0 = over_none (λ i. cond (is_inside line sums i k) (break_at line i).duration (pos 0))
+            (length line.breaks) none in
             omega (arith, ints, s, none_at_all)

@@ -1,5 +1,6 @@
 -- The lines of a load carry what is taken.
-use Rattle.std.proofs.Common.{◌≡◌, ◌∙◌, ℕ, zero, suc, ◌<◌, ◌≤◌, Bool, true, false, List, [], ◌∷◌, ◌++◌, length, map, ℤ, pos, Option, Some, None, refl, sym, ap, subst, arith}
+use Rattle.std.proofs.Common.{◌≡◌, ◌∙◌, ℕ, zero, suc, ◌<◌, ◌≤◌, Bool, true, false, List, [], ◌∷◌, ◌++◌, length, map, ℤ, pos, Option, Some, None, refl, sym, ap}
+use Rattle.std.proofs.Common.{subst, arith}
 use Rattle.std.specs.Prelude.{IsTrue, ◌&&◌, ◌||◌, ◌==◌, not, slice_index_or, ◌≤ℤ◌, int_le}
 use Rattle.std.specs.List.{list_all}
 use Rattle.std.proofs.lemmas.Int.{ints}
@@ -29,7 +30,8 @@ one_behind : {A : Type 0} (xs : List A) (x : A) → length (xs ++ x ∷ []) ≡ 
 one_behind [] x = refl
 one_behind (y ∷ ys) x = ap suc (one_behind ys x)
 
-same_of_all : {T : Type 0} (f : ℕ → T) (last none : T) → ((n : ℕ) → f n ≡ last) → (list : List ℕ) (k : ℕ) → k ≤ length list → slice_index_or (map f list ++ last ∷ []) k none ≡ last
+same_of_all : {T : Type 0} (f : ℕ → T) (last none : T) → ((n : ℕ) → f n ≡ last)
+    → (list : List ℕ) (k : ℕ) → k ≤ length list → slice_index_or (map f list ++ last ∷ []) k none ≡ last
 same_of_all f last none same [] zero le = refl
 same_of_all f last none same [] (suc k) le = absurd (omega (arith, le))
 same_of_all f last none same (x ∷ xs) zero le = same x
@@ -101,11 +103,16 @@ module _ (model : Model) (d : ℕ) (has : HasLoad model d) where
 
     -- each value is 0 or more, and at most 2 ^ 30
     pub small : AreSmall (value_of model d e)
-    small = record { each = λ x. of_list evaluator.values (and_right (has_no_matrix evaluator.matrix) _ adds) (λ k low. (is_evaluator.values_in_range k (pos 0) low).at_most) x }
+    small = record {
+      each =
+          λ x. of_list evaluator.values (and_right (has_no_matrix evaluator.matrix) _ adds) (λ k low. (is_evaluator.values_in_range k (pos 0) low).at_most) x;
+    }
       where
-        of_list : (values : List ℤ) → IsTrue (list_all (int_le (pos 0)) values) → ((k : ℕ) → k < length values → number_at values k ≤ℤ greatest_value) → (k : ℕ) → IsUpTo 1 (number_at values k)
+        of_list : (values : List ℤ) → IsTrue (list_all (int_le (pos 0)) values)
+            → ((k : ℕ) → k < length values → number_at values k ≤ℤ greatest_value) → (k : ℕ) → IsUpTo 1 (number_at values k)
         of_list [] all high k = record { low = omega (arith, ints); high = omega (arith, ints) }
-        of_list (x ∷ xs) all high zero = record { low = le_of_test (pos 0) x (and_left (int_le (pos 0) x) _ all); high = (let h = high 0 (omega arith) in omega (arith, ints, h)) }
+        of_list (x ∷ xs) all high zero =
+            record { low = le_of_test (pos 0) x (and_left (int_le (pos 0) x) _ all); high = (let h = high 0 (omega arith) in omega (arith, ints, h)) }
         of_list (x ∷ xs) all high (suc k) = of_list xs (and_right (int_le (pos 0) x) _ all) (λ j low. high (suc j) (omega (arith, low))) k
 
   module _ (v : ℕ) (vehicle : v < length model.vehicles) where
@@ -126,7 +133,8 @@ module _ (model : Model) (d : ℕ) (has : HasLoad model d) where
         let e = ap (λ m. matrix_part model m i j) (no_matrix (evaluator_number here v) number_low) in
         omega (arith, ints, e)
 
-    arcs_take : (x : ℕ) (ts : List ℕ) (end k : ℕ) → k < suc (length ts) → (slice_index_or (map (line_arc model d v) (arcs_from v x (ts ++ end ∷ []))) k no_arc).transit ≡ f (slice_index_or (x ∷ ts) k 0)
+    arcs_take : (x : ℕ) (ts : List ℕ) (end k : ℕ) → k < suc (length ts)
+        → (slice_index_or (map (line_arc model d v) (arcs_from v x (ts ++ end ∷ []))) k no_arc).transit ≡ f (slice_index_or (x ∷ ts) k 0)
     arcs_take x [] end zero low = takes x end
     arcs_take x [] end (suc k) low = absurd (omega (arith, low))
     arcs_take x (t ∷ ts) end zero low = takes x t
@@ -174,18 +182,21 @@ module _ (model : Model) (d : ℕ) (has : HasLoad model d) where
 
       bare_carries : IsCarrying bare_line f nodes capacity
       bare_carries = record {
-        stops = ap suc (one_behind (map (λ node. stop_allows capacity None) list) (stop_allows capacity None) ∙ ap suc (as_many (λ node. stop_allows capacity None) list));
+        stops = ap suc
+            (one_behind (map (λ node. stop_allows capacity None) list) (stop_allows capacity None) ∙ ap suc (as_many (λ node. stop_allows capacity None) list));
         arcs = length_arcs_of ∙ one_behind list (vehicle_at model v).end;
         transits = λ k low. arcs_take (vehicle_at model v).start list (vehicle_at model v).end k low;
         tight = refl;
         no_breaks = refl;
         bounded = bounds;
-        first = λ low. and_both (within (pos 0) horizon (pos 0)) _ (in_horizon (pos 0) (omega (arith, ints)) low) (and_both (anywhere (pos 0)) _ (to_stop (pos 0) (omega (arith, ints)) low) (starts_at here.fix_start));
+        first = λ low. and_both (within (pos 0) horizon (pos 0)) _ (in_horizon (pos 0) (omega (arith, ints)) low)
+            (and_both (anywhere (pos 0)) _ (to_stop (pos 0) (omega (arith, ints)) low) (starts_at here.fix_start));
         others = others;
       }
         where
           length_arcs_of : length (line model d v list).arcs ≡ length (list ++ (vehicle_at model v).end ∷ [])
-          length_arcs_of = mapped (arcs_from v (vehicle_at model v).start (list ++ (vehicle_at model v).end ∷ [])) ∙ length_arcs v (vehicle_at model v).start (list ++ (vehicle_at model v).end ∷ [])
+          length_arcs_of = mapped (arcs_from v (vehicle_at model v).start (list ++ (vehicle_at model v).end ∷ []))
+              ∙ length_arcs v (vehicle_at model v).start (list ++ (vehicle_at model v).end ∷ [])
             where
               mapped : (arcs : List UsedArc) → length (map (line_arc model d v) arcs) ≡ length arcs
               mapped [] = refl
@@ -193,7 +204,8 @@ module _ (model : Model) (d : ℕ) (has : HasLoad model d) where
 
           others : (k : ℕ) → 0 < k → k ≤ length nodes → (x : ℤ) → pos 0 ≤ℤ x → x ≤ℤ capacity → IsTrue (allows bare_line k x)
           others zero some le x low high = absurd (omega (arith, some))
-          others (suc k) some le x low high = and_both (within (pos 0) horizon x) _ (in_horizon x low high) (subst (λ p. IsTrue (p x)) (sym (behind_start k le)) (to_stop x low high))
+          others (suc k) some le x low high =
+              and_both (within (pos 0) horizon x) _ (in_horizon x low high) (subst (λ p. IsTrue (p x)) (sym (behind_start k le)) (to_stop x low high))
 
       carries : IsCarrying (line model d v list) f nodes capacity
       carries = subst (λ dimension. IsCarrying (line_by dimension) f nodes capacity) (sym here_is) bare_carries
@@ -201,7 +213,8 @@ module _ (model : Model) (d : ℕ) (has : HasLoad model d) where
       decided : ChosenWhereFeasible → is_feasible (line model d v list) ≡ int_le (load_of model d v list) capacity
       decided chosen = same_tests (is_feasible (line model d v list)) (int_le (load_of model d v list) capacity)
           (λ h. test_of_le (load_of model d v list) capacity (fits (line model d v list) f nodes capacity carries ((chosen (line model d v list)).0 h)))
-          (λ h. (chosen (line model d v list)).1 (goes_through (line model d v list) f nodes capacity carries (small (evaluator_number here v) number_low) (le_of_test (load_of model d v list) capacity h)))
+          (λ h. (chosen (line model d v list)).1 (goes_through (line model d v list) f nodes capacity carries
+          (small (evaluator_number here v) number_low) (le_of_test (load_of model d v list) capacity h)))
 
 pub decide : ChosenWhereFeasible → LoadsDecide
 decide chosen model d v has vehicle list = ap (λ b. is_empty list || b) (decided model d has v vehicle list chosen)

@@ -20,7 +20,8 @@ next-sum f list k sum more low is next =
     let e = ap (λ n. total_by f (take n list)) (add-one k) in
     omega (arith, ints, is, next, t, e)
 
-module _ (f : ℕ → ℤ) (small : AreSmall f) (list : List ℕ) (few : length list ≤ 1000) (k : ℕ) (low : k < length list) (sum more : ℤ) (is : sum ≡ total_by f (take k list)) (next : more ≡ f (slice_index_or list k 0)) where
+module _ (f : ℕ → ℤ) (small : AreSmall f) (list : List ℕ) (few : length list ≤ 1000) (k : ℕ) (low : k < length list)
+    (sum more : ℤ) (is : sum ≡ total_by f (take k list)) (next : more ≡ f (slice_index_or list k 0)) where
   -- and how it is read
   pub next-read : to_z w64 (of_z w64 (sum +ℤ to_z w64 (of_z w64 more))) ≡ total_by f (take (k + 1) list)
   next-read =

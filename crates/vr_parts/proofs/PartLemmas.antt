@@ -58,7 +58,8 @@ pub record IsPart (model : Model) (lists : List (List ℕ)) (part : ListAfter) :
   pub visits : IsTrue (list_all (is_visit model) (joined lists part.pieces))
   pub distinct : IsTrue (is_distinct (joined lists part.pieces))
 
-pub of-part : (model : Model) → IsWellFormed model → (lists : List (List ℕ)) (parts : List ListAfter) → AreParts lists parts → IsTrue (are_lists model (changed lists parts)) → (k : ℕ) → k < length parts → IsPart model lists (part_at parts k)
+pub of-part : (model : Model) → IsWellFormed model → (lists : List (List ℕ)) (parts : List ListAfter) → AreParts lists parts
+    → IsTrue (are_lists model (changed lists parts)) → (k : ℕ) → k < length parts → IsPart model lists (part_at parts k)
 of-part model well lists parts are after k low =
     let s = small-lists model well (changed lists parts) after in
     let same = part_is lists parts are k low in
@@ -72,11 +73,13 @@ of-part model well lists parts are after k low =
       distinct = subst (λ l. IsTrue (is_distinct l)) same (s.distinct v);
     }
 
-pub is-part : (model : Model) → IsWellFormed model → (lists : List (List ℕ)) (parts : List ListAfter) → AreParts lists parts → IsTrue (is_valid model (changed lists parts)) → (k : ℕ) → k < length parts → IsPart model lists (part_at parts k)
+pub is-part : (model : Model) → IsWellFormed model → (lists : List (List ℕ)) (parts : List ListAfter) → AreParts lists parts
+    → IsTrue (is_valid model (changed lists parts)) → (k : ℕ) → k < length parts → IsPart model lists (part_at parts k)
 is-part model well lists parts are valid = of-part model well lists parts are (are-lists model (changed lists parts) valid)
 
 -- the vehicle of a part is one of the model
-pub known-vehicle : (model : Model) → IsWellFormed model → (lists : List (List ℕ)) (parts : List ListAfter) → AreParts lists parts → IsTrue (is_valid model (changed lists parts)) → (k : ℕ) → k < length parts → (part_at parts k).vehicle < length model.vehicles
+pub known-vehicle : (model : Model) → IsWellFormed model → (lists : List (List ℕ)) (parts : List ListAfter) → AreParts lists parts
+    → IsTrue (is_valid model (changed lists parts)) → (k : ℕ) → k < length parts → (part_at parts k).vehicle < length model.vehicles
 known-vehicle model well lists parts are valid k low =
     let s = small model well (changed lists parts) valid in
     let many = s.many in
@@ -94,11 +97,13 @@ once-valid model lists valid =
 
 -- ---- the lists after a change that was made on valid lists
 
-module _ (model : Model) (tours : Tours) (of_model : tours.visits ≡ visits model) (valid : IsTrue (is_valid model tours.lists)) (parts : List ListAfter) (made : IsMadeOn tours parts) where
+module _ (model : Model) (tours : Tours) (of_model : tours.visits ≡ visits model)
+    (valid : IsTrue (is_valid model tours.lists)) (parts : List ListAfter) (made : IsMadeOn tours parts) where
   entry : (x : ℕ) → IsTrue (is_active tours.lists x) → IsTrue (holds tours.visits x)
   entry x active =
       let s = seat_of_active tours.lists x active in
-      let visit = all-from_list_all (is_visit model) (route tours.lists s.0) (route-visits model tours.lists s.0 (are-lists model tours.lists valid)) s.1 0 s.2.place in
+      let visit = all-from_list_all (is_visit model) (route tours.lists s.0)
+      (route-visits model tours.lists s.0 (are-lists model tours.lists valid)) s.1 0 s.2.place in
       subst (λ l. IsTrue (holds l x)) (sym of_model) (visit_held model x (subst (λ y. IsTrue (is_visit model y)) s.2.found visit))
 
   -- no node stands twice in them

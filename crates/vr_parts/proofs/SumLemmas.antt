@@ -1,5 +1,6 @@
 -- Sums over the lists of vehicles change by the changed lists alone.
-use Rattle.std.proofs.Common.{◌≡◌, ◌≢◌, ◌∙◌, ℕ, zero, suc, ◌+◌, ◌<◌, ◌≤◌, ◌⊎◌, List, [], ◌∷◌, ◌++◌, length, take, add-one, refl, sym, ap, inl, inr, arith, length-set}
+use Rattle.std.proofs.Common.{◌≡◌, ◌≢◌, ◌∙◌, ℕ, zero, suc, ◌+◌, ◌<◌, ◌≤◌, ◌⊎◌, List, [], ◌∷◌, ◌++◌, length, take, add-one, refl, sym, ap, inl, inr, arith}
+use Rattle.std.proofs.Common.{length-set}
 use Rattle.std.specs.Prelude.{ℤ, ◌+ℤ◌, ◌-ℤ◌, slice_index_or, All}
 use Rattle.std.proofs.lemmas.Int.{ints}
 use Rattle.std.proofs.lemmas.Bool.{cases_lt}
@@ -18,7 +19,8 @@ use Rattle.vr_routes.proofs.PartLemmas.{part_is}
 use Rattle.vr_parts.specs.Sums.{sum_over_routes, part_change}
 
 -- a sum over one value more of a list
-pub total-more : {A : Type 0} (f : A → ℤ) (xs : List A) (k : ℕ) (d : A) → k < length xs → total_by f (take (k + 1) xs) ≡ total_by f (take k xs) +ℤ f (slice_index_or xs k d)
+pub total-more : {A : Type 0} (f : A → ℤ) (xs : List A) (k : ℕ) (d : A) → k < length xs
+    → total_by f (take (k + 1) xs) ≡ total_by f (take k xs) +ℤ f (slice_index_or xs k d)
 total-more f xs k d low =
     let a = ap (total_by f) (take_more xs k d low) in
     let b = total_by-append f (take k xs) (slice_index_or xs k d ∷ []) in
@@ -46,7 +48,8 @@ pub over-set : (f : ℕ → List ℕ → ℤ) (lists : List (List ℕ)) (v : ℕ
     → sum_over_routes f (with_route lists v list) ≡ sum_over_routes f lists +ℤ (f v list -ℤ f v (route lists v))
 over-set f lists v list low =
     let set : List (List ℕ) = with_route lists v list in
-    let b = sum-but (λ u. f u (route set u)) (λ u. f u (route lists u)) 0 (length lists) v (omega arith) (omega (arith, low)) (λ u other. ap (f u) (route_set_other lists v u list other)) in
+    let b = sum-but (λ u. f u (route set u)) (λ u. f u (route lists u)) 0 (length lists) v
+    (omega arith) (omega (arith, low)) (λ u other. ap (f u) (route_set_other lists v u list other)) in
     let here = ap (f v) (route_set_same lists v list low) in
     let many = ap (sum_range (λ u. f u (route set u)) 0) (length-set lists v list) in
     omega (arith, ints, b, here, many)
@@ -68,14 +71,16 @@ pub upto-many : (lists : List (List ℕ)) (parts : List ListAfter) (k : ℕ) →
 upto-many lists parts k = as_many_lists lists (take k parts)
 
 -- a list that no part gives away stays
-pub route-kept : (old : List (List ℕ)) (parts : List ListAfter) (lists : List (List ℕ)) (v : ℕ) → All (λ part. v ≢ part.vehicle) parts → route (with_parts old parts lists) v ≡ route lists v
+pub route-kept : (old : List (List ℕ)) (parts : List ListAfter) (lists : List (List ℕ)) (v : ℕ)
+    → All (λ part. v ≢ part.vehicle) parts → route (with_parts old parts lists) v ≡ route lists v
 route-kept old [] lists v away = refl
 route-kept old (p ∷ parts) lists v away =
     route-kept old parts (with_route lists p.vehicle (joined old p.pieces)) v (λ k d low. away (suc k) d (omega (arith, low)))
     ∙ route_set_other lists p.vehicle v (joined old p.pieces) (away 0 no_part (omega arith))
 
 -- the list of a part is the old one until it is its turn
-pub upto-kept : (lists : List (List ℕ)) (parts : List ListAfter) → AreParts lists parts → (k : ℕ) → k < length parts → route (upto lists parts k) (part_at parts k).vehicle ≡ route lists (part_at parts k).vehicle
+pub upto-kept : (lists : List (List ℕ)) (parts : List ListAfter) → AreParts lists parts → (k : ℕ)
+    → k < length parts → route (upto lists parts k) (part_at parts k).vehicle ≡ route lists (part_at parts k).vehicle
 upto-kept lists parts are k low = route-kept lists (take k parts) lists (part_at parts k).vehicle away
   where
     away : All (λ part. (part_at parts k).vehicle ≢ part.vehicle) (take k parts)
@@ -90,7 +95,8 @@ upto-kept lists parts are k low = route-kept lists (take k parts) lists (part_at
 -- one part more
 pub change-next : (f : ℕ → List ℕ → ℤ) (lists : List (List ℕ)) (parts : List ListAfter) (k : ℕ) → k < length parts
     → total_by (part_change f lists) (take (suc k) parts) ≡ total_by (part_change f lists) (take k parts) +ℤ part_change f lists (part_at parts k)
-change-next f lists parts k low = ap (λ n. total_by (part_change f lists) (take n parts)) (sym (add-one k)) ∙ total-more (part_change f lists) parts k no_part low
+change-next f lists parts k low = ap (λ n. total_by (part_change f lists) (take n parts)) (sym (add-one k))
+    ∙ total-more (part_change f lists) parts k no_part low
 
 module _ (f : ℕ → List ℕ → ℤ) (lists : List (List ℕ)) (parts : List ListAfter) (are : AreParts lists parts) where
   sum-upto : (k : ℕ) → k ≤ length parts → sum_over_routes f (upto lists parts k) ≡ sum_over_routes f lists +ℤ total_by (part_change f lists) (take k parts)
@@ -100,7 +106,8 @@ module _ (f : ℕ → List ℕ → ℤ) (lists : List (List ℕ)) (parts : List 
       let under : k < length parts = omega (arith, low) in
       let i = sum-upto k (omega (arith, low)) in
       let next = ap (sum_over_routes f) (upto-next lists parts k under) in
-      let known : part.vehicle < length (upto lists parts k) = (let a = are.each_vehicle k no_part under in let m = upto-many lists parts k in omega (arith, a, m)) in
+      let known : part.vehicle < length (upto lists parts k) =
+      (let a = are.each_vehicle k no_part under in let m = upto-many lists parts k in omega (arith, a, m)) in
       let one = over-set f (upto lists parts k) part.vehicle (joined lists part.pieces) known in
       let kept = ap (f part.vehicle) (upto-kept lists parts are k under) in
       let more = change-next f lists parts k under in
@@ -116,7 +123,8 @@ module _ (f : ℕ → List ℕ → ℤ) (lists : List (List ℕ)) (parts : List 
       omega (arith, ints, s, a, b)
 
 -- the list of a part after the change is what its pieces are joined to
-pub part-list : (lists : List (List ℕ)) (parts : List ListAfter) → AreParts lists parts → (k : ℕ) → k < length parts → route (changed lists parts) (part_at parts k).vehicle ≡ joined lists (part_at parts k).pieces
+pub part-list : (lists : List (List ℕ)) (parts : List ListAfter) → AreParts lists parts → (k : ℕ)
+    → k < length parts → route (changed lists parts) (part_at parts k).vehicle ≡ joined lists (part_at parts k).pieces
 part-list = part_is
 
 -- ---- the loop over the parts of a change

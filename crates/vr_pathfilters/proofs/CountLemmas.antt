@@ -26,7 +26,8 @@ both_counts : {a b c d : ℕ} → a ≡ b → c ≡ d → ◌≡◌ {A = Counts}
 both_counts e g = ap₂ (λ p d. record { pickups = p; deliveries = d }) e g
 
 -- no more are counted than there are
-pub counts_few : (model : Model) (list : List ℕ) (k : ℕ) → k ≤ length list → ((pair_counts model (take k list)).pickups ≤ k) × ((pair_counts model (take k list)).deliveries ≤ k)
+pub counts_few : (model : Model) (list : List ℕ) (k : ℕ) → k ≤ length list
+    → ((pair_counts model (take k list)).pickups ≤ k) × ((pair_counts model (take k list)).deliveries ≤ k)
 counts_few model list k low =
     let n = length-take-le k list low in
     let a = count_by-le-length (is_pickup model) (take k list) in
@@ -69,21 +70,26 @@ module _ (model : Model) (well_formed : IsWellFormed model) (list : List ℕ) (k
       absent found e pair g = Prim.cc
 
       one_kind : (pair : Pair) → In model.pairs pair → pair.pickup ≡ node → pair.delivery ≡ node → ⊥
-      one_kind pair among start end = clash (pair.pickup == pair.delivery) (test_of_eq pair.pickup pair.delivery (start ∙ sym end)) (two_nodes model.pairs pair well_formed.no_node_in_pairs_twice among)
+      one_kind pair among start end = clash (pair.pickup == pair.delivery) (test_of_eq pair.pickup pair.delivery (start ∙ sym end))
+          (two_nodes model.pairs pair well_formed.no_node_in_pairs_twice among)
 
       by_kind : (pair : Pair) → pair_of model node ≡ Some pair → In model.pairs pair → IsTrue (is_of node pair) → (b : Bool) → (pair.pickup == node) ≡ b
           → with_node_of (Some pair) (pair_counts model (take k list)) node ≡ pair_counts model (take (k + 1) list)
       by_kind pair e among of true start =
           let is : pair.pickup ≡ node = eq_of_test pair.pickup node start in
           let yes : is_pickup model node ≡ true = subst (λ x. IsTrue (is_pickup model x)) is (any_of (λ p. p.pickup) model.pairs pair among) in
-          let not_end = no_delivery (λ other among_too end found. one_kind other among_too (ap (λ (p : Pair). p.pickup) (same_pair other pair found e) ∙ is) end) in
-          ap (λ b. cond b (record { pickups = pickups_in model (take k list) + 1; deliveries = deliveries_in model (take k list) }) (record { pickups = pickups_in model (take k list); deliveries = deliveries_in model (take k list) + 1 })) start
+          let not_end =
+          no_delivery (λ other among_too end found. one_kind other among_too (ap (λ (p : Pair). p.pickup) (same_pair other pair found e) ∙ is) end) in
+          ap (λ b. cond b (record { pickups = pickups_in model (take k list) + 1; deliveries = deliveries_in model (take k list) })
+          (record { pickups = pickups_in model (take k list); deliveries = deliveries_in model (take k list) + 1 })) start
           ∙ both_counts (sym (count_by_more_yes (is_pickup model) list k 0 low yes)) (sym (count_by_more_no (is_delivery model) list k 0 low not_end))
       by_kind pair e among of false start =
           let is : pair.delivery ≡ node = eq_of_test pair.delivery node (sym (ap (λ b. b || (pair.delivery == node)) start) ∙ of) in
           let yes : is_delivery model node ≡ true = subst (λ x. IsTrue (is_delivery model x)) is (any_of (λ p. p.delivery) model.pairs pair among) in
-          let not_start = no_pickup (λ other among_too begin found. one_kind other among_too begin (ap (λ (p : Pair). p.delivery) (same_pair other pair found e) ∙ is)) in
-          ap (λ b. cond b (record { pickups = pickups_in model (take k list) + 1; deliveries = deliveries_in model (take k list) }) (record { pickups = pickups_in model (take k list); deliveries = deliveries_in model (take k list) + 1 })) start
+          let not_start =
+          no_pickup (λ other among_too begin found. one_kind other among_too begin (ap (λ (p : Pair). p.delivery) (same_pair other pair found e) ∙ is)) in
+          ap (λ b. cond b (record { pickups = pickups_in model (take k list) + 1; deliveries = deliveries_in model (take k list) })
+          (record { pickups = pickups_in model (take k list); deliveries = deliveries_in model (take k list) + 1 })) start
           ∙ both_counts (sym (count_by_more_no (is_pickup model) list k 0 low not_start)) (sym (count_by_more_yes (is_delivery model) list k 0 low yes))
 
       by : (found : Option Pair) → pair_of model node ≡ found → with_node model (pair_counts model (take k list)) node ≡ pair_counts model (take (k + 1) list)
@@ -98,18 +104,23 @@ module _ (model : Model) (well_formed : IsWellFormed model) (list : List ℕ) (k
 
 -- ---- a table that is written over, entry by entry
 
-module _ (model : Model) (list : List ℕ) (table : List Counts) (k : ℕ) (low : k < length list) (distinct : IsTrue (is_distinct list)) (within : slice_index list k < length table) (now : Counts) where
+module _ (model : Model) (list : List ℕ) (table : List Counts) (k : ℕ) (low : k < length list)
+    (distinct : IsTrue (is_distinct list)) (within : slice_index list k < length table) (now : Counts) where
   abbrev written : List Counts
   written = slice_set table (slice_index list k) now
 
   -- what stands up to the nodes before, and up to this one
-  pub counted_more : now ≡ pair_counts model (take (k + 1) list) → ((j : ℕ) → j < k → count_of table (slice_index list j) ≡ pair_counts model (take (j + 1) list)) → (j : ℕ) → j < k + 1 → count_of written (slice_index list j) ≡ pair_counts model (take (j + 1) list)
+  pub counted_more : now ≡ pair_counts model (take (k + 1) list)
+      → ((j : ℕ) → j < k → count_of table (slice_index list j) ≡ pair_counts model (take (j + 1) list))
+      → (j : ℕ) → j < k + 1 → count_of written (slice_index list j) ≡ pair_counts model (take (j + 1) list)
   counted_more is before j here = elim (cases_lt j k) [
     | inl earlier ↦ get_or-set_other table (slice_index list k) (slice_index list j) now no_counts
-        (λ same. let two = at_least_two (slice_index list k) list j k earlier low same refl in let few = times_of_distinct list distinct (slice_index list k) in omega (arith, two, few))
+        (λ same. let two = at_least_two (slice_index list k) list j k earlier low same refl in
+        let few = times_of_distinct list distinct (slice_index list k) in omega (arith, two, few))
         ∙ before j earlier
     | inr not_earlier ↦ (let last : k ≡ j = omega (arith, here, not_earlier) in
-        subst (λ i. count_of written (slice_index list i) ≡ pair_counts model (take (i + 1) list)) last (get_or-set_same table (slice_index list k) now no_counts within ∙ is))
+        subst (λ i. count_of written (slice_index list i) ≡ pair_counts model (take (i + 1) list))
+        last (get_or-set_same table (slice_index list k) now no_counts within ∙ is))
   ]
 
   -- others stay
@@ -118,23 +129,29 @@ module _ (model : Model) (list : List ℕ) (table : List Counts) (k : ℕ) (low 
 
 -- ---- a list that keeps its ends
 
-module _ (model : Model) (old middle : List ℕ) (front behind : ℕ) (seams : AreSeams (length old) front behind) (place : ℕ) (a b : Counts) (at_front : a ≡ pair_counts model (take front old)) (inside : b ≡ pair_counts model (take (place - front) middle)) where
+module _ (model : Model) (old middle : List ℕ) (front behind : ℕ) (seams : AreSeams (length old) front behind) (place : ℕ)
+    (a b : Counts) (at_front : a ≡ pair_counts model (take front old)) (inside : b ≡ pair_counts model (take (place - front) middle)) where
   abbrev new : List ℕ
   new = spliced old front behind middle
 
   pub counts_front : place ≤ front → pair_counts model (take place old) ≡ pair_counts model (take place new)
-  counts_front low = both_counts (sym (in_front (is_pickup model) old middle front behind seams place low)) (sym (in_front (is_delivery model) old middle front behind seams place low))
+  counts_front low = both_counts (sym (in_front (is_pickup model) old middle front behind seams place low))
+      (sym (in_front (is_delivery model) old middle front behind seams place low))
 
   pub counts_between : front < place → place - front ≤ length middle
       → ◌≡◌ {A = Counts} (record { pickups = a.pickups + b.pickups; deliveries = a.deliveries + b.deliveries }) (pair_counts model (take place new))
   counts_between past low =
       let e : front + (place - front) ≡ place = omega (arith, past) in
       both_counts
-      (ap₂ (λ (x y : Counts). x.pickups + y.pickups) at_front inside ∙ (sym (in_middle (is_pickup model) old middle front behind seams (place - front) low) ∙ ap (λ n. pickups_in model (take n new)) e))
-      (ap₂ (λ (x y : Counts). x.deliveries + y.deliveries) at_front inside ∙ (sym (in_middle (is_delivery model) old middle front behind seams (place - front) low) ∙ ap (λ n. deliveries_in model (take n new)) e))
+      (ap₂ (λ (x y : Counts). x.pickups + y.pickups) at_front inside
+      ∙ (sym (in_middle (is_pickup model) old middle front behind seams (place - front) low) ∙ ap (λ n. pickups_in model (take n new)) e))
+      (ap₂ (λ (x y : Counts). x.deliveries + y.deliveries) at_front inside
+      ∙ (sym (in_middle (is_delivery model) old middle front behind seams (place - front) low) ∙ ap (λ n. deliveries_in model (take n new)) e))
 
-  module _ (later : ℕ) (is_later : later ≡ behind + (place - front - length middle)) (c d : Counts) (at_behind : c ≡ pair_counts model (take behind old)) (past : d ≡ pair_counts model (take later old)) where
-    rise : (count : Counts → ℕ) (test : ℕ → Bool) → count c ≡ count_by test (take behind old) → count d ≡ count_by test (take later old) → count c ≤ count a + count b + count d
+  module _ (later : ℕ) (is_later : later ≡ behind + (place - front - length middle)) (c d : Counts)
+      (at_behind : c ≡ pair_counts model (take behind old)) (past : d ≡ pair_counts model (take later old)) where
+    rise : (count : Counts → ℕ) (test : ℕ → Bool) → count c ≡ count_by test (take behind old)
+        → count d ≡ count_by test (take later old) → count c ≤ count a + count b + count d
     rise count test e g =
         let more = count_rises test behind later old (omega (arith, is_later)) in
         omega (arith, e, g, more)
@@ -146,7 +163,9 @@ module _ (model : Model) (old middle : List ℕ) (front behind : ℕ) (seams : A
     deliveries_rise = rise (λ x. x.deliveries) (is_delivery model) (ap (λ (x : Counts). x.deliveries) at_behind) (ap (λ (x : Counts). x.deliveries) past)
 
     pub counts_behind : front < place → length middle < place - front
-        → ◌≡◌ {A = Counts} (record { pickups = a.pickups + b.pickups + d.pickups - c.pickups; deliveries = a.deliveries + b.deliveries + d.deliveries - c.deliveries }) (pair_counts model (take place new))
+        → ◌≡◌ {A = Counts}
+        (record { pickups = a.pickups + b.pickups + d.pickups - c.pickups; deliveries = a.deliveries + b.deliveries + d.deliveries - c.deliveries })
+        (pair_counts model (take place new))
     counts_behind after high =
         let j : ℕ = place - front - length middle in
         let whole : front + length middle + j ≡ place = omega (arith, after, high) in

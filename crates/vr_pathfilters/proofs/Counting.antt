@@ -36,7 +36,8 @@ module _ {A : Type 0} (f g : A → Bool) where
       omega (arith, rest, a, b)
 
   -- and fewer do where one passes the other alone
-  pub count_lt : (xs : List A) → ((x : A) → In xs x → IsTrue (f x) → IsTrue (g x)) → (y : A) → In xs y → f y ≡ false → IsTrue (g y) → count_by f xs < count_by g xs
+  pub count_lt : (xs : List A) → ((x : A) → In xs x → IsTrue (f x) → IsTrue (g x))
+      → (y : A) → In xs y → f y ≡ false → IsTrue (g y) → count_by f xs < count_by g xs
   count_lt [] weaker y among fails passes = absurd among
   count_lt (x ∷ xs) weaker y (inl e) fails passes =
       let rest = count_le xs (λ z among. weaker z (inr among)) in
@@ -53,7 +54,8 @@ module _ {A : Type 0} (f g : A → Bool) where
       omega (arith, rest, here, c, d)
 
 -- two tests that the same pass
-pub count_same : {A : Type 0} (f g : A → Bool) (xs : List A) → ((x : A) → In xs x → IsTrue (f x) → IsTrue (g x)) → ((x : A) → In xs x → IsTrue (g x) → IsTrue (f x)) → count_by f xs ≡ count_by g xs
+pub count_same : {A : Type 0} (f g : A → Bool) (xs : List A) → ((x : A) → In xs x → IsTrue (f x) → IsTrue (g x))
+    → ((x : A) → In xs x → IsTrue (g x) → IsTrue (f x)) → count_by f xs ≡ count_by g xs
 count_same f g xs forth back = let a = count_le f g xs forth in let b = count_le g f xs back in omega (arith, a, b)
 
 step_between : (x a b m n k : ℕ) → a ≤ b → m + n ≡ k
@@ -175,7 +177,8 @@ module _ {A : Type 0} (xs : List A) (p d : A → ℕ) (n : ℕ) (served : AreSer
       let is = level x among (omega (arith, span, end)) in
       let a = count_between p (p x + 1) (d x) (omega (arith, span)) xs in
       let b = count_between d (p x + 1) (d x) (omega (arith, span)) xs in
-      let fewer = count_lt (within d x) (within p x) xs (λ z among_too inside_too. by z among_too inside_too (λ turned. none_cross level k z x among_too among turned)) y there
+      let fewer = count_lt (within d x) (within p x) xs
+      (λ z among_too inside_too. by z among_too inside_too (λ turned. none_cross level k z x among_too among turned)) y there
       (let e : within d x y ≡ false = Prim.grind (arith, nat_tests) in e)
       (let e : within p x y ≡ true = Prim.grind (arith, nat_tests) in e) in
       omega (arith, is, a, b, fewer)
@@ -190,7 +193,8 @@ module _ {A : Type 0} (xs : List A) (p d : A → ℕ) (n : ℕ) (served : AreSer
             | inl more ↦ (let e : within p x z ≡ true = Prim.grind (arith, nat_tests) in e)
             | inr not_more ↦ elim (cases_lt (p z) (p x)) [
               | inl less ↦ absurd (none (omega (arith, less, low)) less (omega (arith, after)) (omega (arith, before)) (omega (arith, before, end)))
-              | inr not_less ↦ absurd (let e = served.apart x z among there (omega (arith, span, end)) (omega (arith, not_less, not_more)) in omega (arith, e, before))
+              | inr not_less ↦
+                  absurd (let e = served.apart x z among there (omega (arith, span, end)) (omega (arith, not_less, not_more)) in omega (arith, e, before))
             ]
           ]
 

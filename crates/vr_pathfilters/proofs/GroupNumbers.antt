@@ -36,7 +36,8 @@ times-filter p [] y = by (p y)
     by false = refl
 times-filter p (x ∷ xs) y = by (p x) (p y) refl refl (times-filter p xs y)
   where
-    by : (b c : Bool) → p x ≡ b → p y ≡ c → times y (filter p xs) ≡ cond c (times y xs) 0 → times y (cond b (x ∷ filter p xs) (filter p xs)) ≡ cond c (hit y x + times y xs) 0
+    by : (b c : Bool) → p x ≡ b → p y ≡ c → times y (filter p xs) ≡ cond c (times y xs) 0
+        → times y (cond b (x ∷ filter p xs) (filter p xs)) ≡ cond c (hit y x + times y xs) 0
     by true true e f rest = ap (λ n. hit y x + n) rest
     by false false e f rest = rest
     by true false e f rest = let none = hit-none y x (λ same. clash (p y) (ap p same ∙ e) f) in omega (arith, none, rest)
@@ -96,7 +97,8 @@ number-times (q ∷ qs) y g few low = by (holds q.nodes y) refl g low (λ h less
         let some = group-times qs y h in
         let zero_is : 0 ≡ times y (slice_index_or qs h no_group).nodes = omega (arith, one, some, few, all) in
         ap (λ b. cond b 1 0) (eqb-zero-suc h) ∙ zero_is
-    by false e zero low later = ap (λ b. cond b 1 0) (apart (1 + position_or_len (λ q. holds q.nodes y) qs) 0 (λ same. omega (arith, same))) ∙ (sym (ap (λ b. cond b 1 0) e) ∙ here)
+    by false e zero low later = ap (λ b. cond b 1 0) (apart (1 + position_or_len (λ q. holds q.nodes y) qs) 0 (λ same. omega (arith, same)))
+        ∙ (sym (ap (λ b. cond b 1 0) e) ∙ here)
     by false e (suc h) low later = ap (λ b. cond b 1 0) (shifted (position_or_len (λ q. holds q.nodes y) qs) h) ∙ later h (omega (arith, low))
 
 -- a node in no group has the number of all groups
@@ -122,7 +124,8 @@ required-times model y h =
 
 -- ---- active nodes by the numbers
 
-module _ (model : Model) (well_formed : IsWellFormed model) (numbers : List ℕ) (are : AreNumbers model numbers) (tours : Tours) (of_model : AreTours model tours) where
+module _ (model : Model) (well_formed : IsWellFormed model) (numbers : List ℕ)
+    (are : AreNumbers model numbers) (tours : Tours) (of_model : AreTours model tours) where
   entry : (y : ℕ) → IsTrue (is_active tours.lists y) → IsTrue (is_visit model y)
   entry y active = sym (visit_test model y) ∙ subst (λ l. IsTrue (holds l y)) of_model.visits_are (of_model.entries y active)
 
@@ -135,7 +138,8 @@ module _ (model : Model) (well_formed : IsWellFormed model) (numbers : List ℕ)
       let nodes : List ℕ = (group_at model g).nodes in
       active-count tours.lists of_model.once nodes
       ∙ over-active (λ y. times y nodes) (one_in_group numbers g) tours.lists (λ y active. sym
-      (ap (λ n. cond (n == g) 1 0) (number-is y active) ∙ number-times model.groups y g (times_of_distinct (each model.groups nodes_in) well_formed.no_node_in_groups_twice y) low))
+      (ap (λ n. cond (n == g) 1 0) (number-is y active)
+      ∙ number-times model.groups y g (times_of_distinct (each model.groups nodes_in) well_formed.no_node_in_groups_twice y) low))
 
   -- the active visits in no group
   pub required-count : count_by (is_active tours.lists) (required model) ≡ over_lists (one_in_group numbers (length model.groups)) tours.lists

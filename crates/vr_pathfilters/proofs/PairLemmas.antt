@@ -1,5 +1,6 @@
 -- Where nodes stand in a list that keeps the front and the end of another one, and which pairs it serves.
-use Rattle.std.proofs.Common.{◌≡◌, ◌∙◌, inl, inr, ℕ, ◌+◌, ◌-◌, ◌<◌, ◌≤◌, Bool, true, false, cond, not, List, [], ◌∷◌, ◌++◌, length, take, drop, refl, sym, ap, ap₂, subst, arith}
+use Rattle.std.proofs.Common.{◌≡◌, ◌∙◌, inl, inr, ℕ, ◌+◌, ◌-◌, ◌<◌, ◌≤◌, Bool, true, false, cond, not, List, [], ◌∷◌, ◌++◌, length, take, drop, refl, sym, ap}
+use Rattle.std.proofs.Common.{ap₂, subst, arith}
 use Rattle.std.specs.Prelude.{IsTrue, ◌&&◌, ◌||◌, ◌==◌, nat_lt, slice_index, slice_range, slice_set, find, Some}
 use Rattle.std.specs.List.{list_all}
 use Rattle.std.proofs.lemmas.Bool.{cases_lt}
@@ -46,7 +47,8 @@ before-without [] ms zs x y none none_too = before-behind ms zs x y none
 before-without (a ∷ xs) ms zs x y none none_too =
     ap₂ (λ h c. cond (a == x) h c) (holds-without xs ms zs y none_too) (before-without xs ms zs x y none none_too)
 
-serves-without : (xs ms zs : List ℕ) (pair : Pair) → holds ms pair.pickup ≡ false → holds ms pair.delivery ≡ false → serves_pair (xs ++ (ms ++ zs)) pair ≡ serves_pair (xs ++ zs) pair
+serves-without : (xs ms zs : List ℕ) (pair : Pair) → holds ms pair.pickup ≡ false
+    → holds ms pair.delivery ≡ false → serves_pair (xs ++ (ms ++ zs)) pair ≡ serves_pair (xs ++ zs) pair
 serves-without xs ms zs pair none none_too =
     ap₂ (λ h c. not h || c) (ap₂ (λ p d. p || d) (holds-without xs ms zs pair.pickup none) (holds-without xs ms zs pair.delivery none_too))
     (before-without xs ms zs pair.pickup pair.delivery none none_too)
@@ -56,7 +58,8 @@ module _ (old middle : List ℕ) (front behind : ℕ) (order : front ≤ behind)
   whole = ap (λ xs. take front old ++ xs) (sym (drop_split old front behind order)) ∙ take-append-drop front old
 
   -- a pair of nodes that neither come nor go
-  serves-kept : (pair : Pair) → holds middle pair.pickup ≡ false → holds middle pair.delivery ≡ false → holds (slice_range old front behind) pair.pickup ≡ false → holds (slice_range old front behind) pair.delivery ≡ false
+  serves-kept : (pair : Pair) → holds middle pair.pickup ≡ false → holds middle pair.delivery ≡ false
+      → holds (slice_range old front behind) pair.pickup ≡ false → holds (slice_range old front behind) pair.delivery ≡ false
       → serves_pair (spliced old front behind middle) pair ≡ serves_pair old pair
   serves-kept pair a b c d =
       serves-without (take front old) middle (drop behind old) pair a b
@@ -80,7 +83,8 @@ all_among p (q ∷ qs) each_one = and_both (p q) (list_all p qs) (each_one q (in
 
 -- ---- which pairs are served afterwards
 
-module _ (model : Model) (well_formed : IsWellFormed model) (old middle : List ℕ) (front behind : ℕ) (order : front ≤ behind) (before : IsTrue (list_all (serves_pair old) model.pairs)) where
+module _ (model : Model) (well_formed : IsWellFormed model) (old middle : List ℕ) (front behind : ℕ)
+    (order : front ≤ behind) (before : IsTrue (list_all (serves_pair old) model.pairs)) where
   abbrev new : List ℕ
   new = spliced old front behind middle
 
@@ -89,7 +93,8 @@ module _ (model : Model) (well_formed : IsWellFormed model) (old middle : List �
 
   -- all pairs are where those of the nodes that come and of those that go are
   pub serves-spliced : (list_all (serves_node model new) middle && list_all (serves_node model new) gone) ≡ list_all (serves_pair new) model.pairs
-  serves-spliced = same_tests (list_all (serves_node model new) middle && list_all (serves_node model new) gone) (list_all (serves_pair new) model.pairs) forth back
+  serves-spliced =
+      same_tests (list_all (serves_node model new) middle && list_all (serves_node model new) gone) (list_all (serves_pair new) model.pairs) forth back
     where
       back : IsTrue (list_all (serves_pair new) model.pairs) → IsTrue (list_all (serves_node model new) middle && list_all (serves_node model new) gone)
       back all = and_both (list_all (serves_node model new) middle) (list_all (serves_node model new) gone)
@@ -99,8 +104,10 @@ module _ (model : Model) (well_formed : IsWellFormed model) (old middle : List �
       forth : IsTrue (list_all (serves_node model new) middle && list_all (serves_node model new) gone) → IsTrue (list_all (serves_pair new) model.pairs)
       forth both = all_among (serves_pair new) model.pairs by
         where
-          asked : (nodes : List ℕ) → IsTrue (list_all (serves_node model new) nodes) → (pair : Pair) → In model.pairs pair → (x : ℕ) → IsTrue (is_of x pair) → IsTrue (holds nodes x) → IsTrue (serves_pair new pair)
-          asked nodes all pair among x of held = subst (λ found. IsTrue (serves_if_any new found)) (pair_found model.pairs pair x well_formed.no_node_in_pairs_twice among of) (all_held (serves_node model new) nodes all x held)
+          asked : (nodes : List ℕ) → IsTrue (list_all (serves_node model new) nodes) → (pair : Pair) → In model.pairs pair
+              → (x : ℕ) → IsTrue (is_of x pair) → IsTrue (holds nodes x) → IsTrue (serves_pair new pair)
+          asked nodes all pair among x of held = subst (λ found. IsTrue (serves_if_any new found))
+              (pair_found model.pairs pair x well_formed.no_node_in_pairs_twice among of) (all_held (serves_node model new) nodes all x held)
 
           come : IsTrue (list_all (serves_node model new) middle)
           come = and_left (list_all (serves_node model new) middle) (list_all (serves_node model new) gone) both
@@ -116,13 +123,15 @@ module _ (model : Model) (well_formed : IsWellFormed model) (old middle : List �
 
           all_pass : (pairs : List Pair) → IsTrue (list_all (serves_pair old) pairs) → (pair : Pair) → In pairs pair → IsTrue (serves_pair old pair)
           all_pass [] all pair among = absurd among
-          all_pass (q ∷ qs) all pair (inl e) = subst (λ p. IsTrue (serves_pair old p)) (sym e) (and_left (serves_pair old q) (list_all (serves_pair old) qs) all)
+          all_pass (q ∷ qs) all pair (inl e) =
+              subst (λ p. IsTrue (serves_pair old p)) (sym e) (and_left (serves_pair old q) (list_all (serves_pair old) qs) all)
           all_pass (q ∷ qs) all pair (inr more) = all_pass qs (and_right (serves_pair old q) (list_all (serves_pair old) qs) all) pair more
 
           by : (pair : Pair) → In model.pairs pair → IsTrue (serves_pair new pair)
           by pair among = cases (holds middle pair.pickup) (holds middle pair.delivery) (holds gone pair.pickup) (holds gone pair.delivery) refl refl refl refl
             where
-              cases : (a b c d : Bool) → holds middle pair.pickup ≡ a → holds middle pair.delivery ≡ b → holds gone pair.pickup ≡ c → holds gone pair.delivery ≡ d → IsTrue (serves_pair new pair)
+              cases : (a b c d : Bool) → holds middle pair.pickup ≡ a → holds middle pair.delivery ≡ b
+                  → holds gone pair.pickup ≡ c → holds gone pair.delivery ≡ d → IsTrue (serves_pair new pair)
               cases true b c d e f g h = asked middle come pair among pair.pickup (of_pickup pair) e
               cases false true c d e f g h = asked middle come pair among pair.delivery (of_delivery pair) f
               cases false false true d e f g h = asked gone go pair among pair.pickup (of_pickup pair) g
@@ -184,7 +193,8 @@ module _ {lists : List (List ℕ)} {v front behind : ℕ} {middle marks : List �
           let high = is.seams.high in
           let n = length-take-le front list_before (omega (arith, order, high)) in
           let low : p.0 < front = let l = p.1 in omega (arith, n, l) in
-          let past = (within p.0 (record { vehicle = is.vehicle; place = omega (arith, low, order, high); found = sym (get_or-take front list_before p.0 0 low) ∙ p.2 })).0 in
+          let past = (within p.0
+          (record { vehicle = is.vehicle; place = omega (arith, low, order, high); found = sym (get_or-take front list_before p.0 0 low) ∙ p.2 })).0 in
           omega (arith, low, past))
 
       not_behind : holds (drop behind list_before) x ≡ false
@@ -192,18 +202,21 @@ module _ {lists : List (List ℕ)} {v front behind : ℕ} {middle marks : List �
           let p = place_of_held (drop behind list_before) x h in
           let n = length-drop behind list_before in
           let low = p.1 in
-          let less = (within (behind + p.0) (record { vehicle = is.vehicle; place = omega (arith, n, low); found = sym (get_or-drop behind list_before p.0 0) ∙ p.2 })).1 in
+          let less = (within (behind + p.0)
+          (record { vehicle = is.vehicle; place = omega (arith, n, low); found = sym (get_or-drop behind list_before p.0 0) ∙ p.2 })).1 in
           omega (arith, less))
 
   -- a node with another place in the lists before
-  pub place_elsewhere : (x w j : ℕ) → holds middle x ≡ false → IsSeat lists x w j → (w ≡ v → (front ≤ j) × (j < behind)) → length list_after ≡ place_of list_after x
+  pub place_elsewhere : (x w j : ℕ) → holds middle x ≡ false → IsSeat lists x w j
+      → (w ≡ v → (front ≤ j) × (j < behind)) → length list_after ≡ place_of list_after x
   place_elsewhere x w j none seat within = place_nowhere x none (λ k here.
       let same = is.once x v k w j here seat in
       subst (λ i. (front ≤ i) × (i < behind)) (sym same.1) (within (sym same.0)))
 
   -- a node in no list before
   pub place_inactive : (x : ℕ) → holds middle x ≡ false → is_active lists x ≡ false → length list_after ≡ place_of list_after x
-  place_inactive x none inactive = place_nowhere x none (λ k here. absurd (clash (is_active lists x) (active_at lists x v k here.vehicle here.place here.found) inactive))
+  place_inactive x none inactive =
+      place_nowhere x none (λ k here. absurd (clash (is_active lists x) (active_at lists x v k here.vehicle here.place here.found) inactive))
 
   -- a node that is not found by its mark
   pub not_between : (x k : ℕ) → k ≡ slice_index marks x → (nat_lt k (length middle) && (slice_index middle k == x)) ≡ false → holds middle x ≡ false
@@ -222,10 +235,12 @@ module _ {lists : List (List ℕ)} {v front behind : ℕ} {middle marks : List �
 
 -- the node at a place of a list has a place of it as its mark
 abbrev pub IsMarkedAt : List ℕ → List ℕ → ℕ → Type 0
-IsMarkedAt list marks j = (slice_index marks (slice_index list j) < length list) × (slice_index list (slice_index marks (slice_index list j)) ≡ slice_index list j)
+IsMarkedAt list marks j = (slice_index marks (slice_index list j) < length list)
+    × (slice_index list (slice_index marks (slice_index list j)) ≡ slice_index list j)
 
 -- one node more is marked
-pub marked_more : (list marks : List ℕ) (k x : ℕ) → k < length list → slice_index list k ≡ x → x < length marks → ((j : ℕ) → j < k → IsMarkedAt list marks j) → (j : ℕ) → j < k + 1 → IsMarkedAt list (slice_set marks x k) j
+pub marked_more : (list marks : List ℕ) (k x : ℕ) → k < length list → slice_index list k ≡ x → x < length marks
+    → ((j : ℕ) → j < k → IsMarkedAt list marks j) → (j : ℕ) → j < k + 1 → IsMarkedAt list (slice_set marks x k) j
 marked_more list marks k x low at within marked j here = by (x == y) refl
   where
     y : ℕ
@@ -237,7 +252,8 @@ marked_more list marks k x low at within marked j here = by (x == y) refl
         let is : slice_index (slice_set marks x k) y ≡ k = subst (λ z. slice_index (slice_set marks x k) z ≡ k) same (get_or-set_same marks x k 0 within) in
         (omega (arith, is, low), ap (λ i. slice_index list i) is ∙ (at ∙ same))
     by false e =
-        let is : slice_index (slice_set marks x k) y ≡ slice_index marks y = get_or-set_other marks x y k 0 (λ same. clash (x == y) (test_of_eq x y (sym same)) e) in
+        let is : slice_index (slice_set marks x k) y ≡ slice_index marks y = get_or-set_other marks
+        x y k 0 (λ same. clash (x == y) (test_of_eq x y (sym same)) e) in
         let before = marked j earlier in
         let there = before.0 in
         (omega (arith, is, there), ap (λ i. slice_index list i) is ∙ before.1)
@@ -263,8 +279,10 @@ all_marked list marks n high marked x held =
 marked_held : (list marks : List ℕ) (x : ℕ) → IsTrue (is_at_mark list marks x) → IsTrue (holds list x)
 marked_held list marks x marked =
     held_at list x (slice_index marks x)
-    (lt_of_test (slice_index marks x) (length list) (and_left (nat_lt (slice_index marks x) (length list)) (slice_index list (slice_index marks x) == x) marked))
-    (eq_of_test (slice_index list (slice_index marks x)) x (and_right (nat_lt (slice_index marks x) (length list)) (slice_index list (slice_index marks x) == x) marked))
+    (lt_of_test (slice_index marks x) (length list)
+    (and_left (nat_lt (slice_index marks x) (length list)) (slice_index list (slice_index marks x) == x) marked))
+    (eq_of_test (slice_index list (slice_index marks x)) x
+    (and_right (nat_lt (slice_index marks x) (length list)) (slice_index list (slice_index marks x) == x) marked))
 
 -- where a list serves the pairs of some nodes, those that are marked need no test
 pub serves-unmarked : (model : Model) (list middle marks gone : List ℕ) → IsTrue (list_all (serves_node model list) middle)

@@ -26,20 +26,25 @@ held_in [] pair x among of = absurd among
 held_in (q ∷ qs) pair x (inl e) of =
     subst (λ xs. IsTrue (holds xs x)) (sym (flat_map-cons pair_nodes q qs))
     (elim (or_cases (pair.pickup == x) (pair.delivery == x) of) [
-      | inl h ↦ or_left (x == q.pickup) ((x == q.delivery) || holds (each qs pair_nodes) x) (subst (λ (p : Pair). IsTrue (x == p.pickup)) e (eq_turned x pair.pickup ∙ h))
-      | inr h ↦ or_right (x == q.pickup) ((x == q.delivery) || holds (each qs pair_nodes) x) (or_left (x == q.delivery) (holds (each qs pair_nodes) x) (subst (λ (p : Pair). IsTrue (x == p.delivery)) e (eq_turned x pair.delivery ∙ h)))
+      | inl h ↦ or_left (x == q.pickup) ((x == q.delivery) || holds (each qs pair_nodes) x)
+          (subst (λ (p : Pair). IsTrue (x == p.pickup)) e (eq_turned x pair.pickup ∙ h))
+      | inr h ↦ or_right (x == q.pickup) ((x == q.delivery) || holds (each qs pair_nodes) x)
+          (or_left (x == q.delivery) (holds (each qs pair_nodes) x) (subst (λ (p : Pair). IsTrue (x == p.delivery)) e (eq_turned x pair.delivery ∙ h)))
     ])
 held_in (q ∷ qs) pair x (inr more) of =
     subst (λ xs. IsTrue (holds xs x)) (sym (flat_map-cons pair_nodes q qs))
-    (or_right (x == q.pickup) ((x == q.delivery) || holds (each qs pair_nodes) x) (or_right (x == q.delivery) (holds (each qs pair_nodes) x) (held_in qs pair x more of)))
+    (or_right (x == q.pickup) ((x == q.delivery) || holds (each qs pair_nodes) x)
+    (or_right (x == q.delivery) (holds (each qs pair_nodes) x) (held_in qs pair x more of)))
 
 -- among pairs of distinct nodes, the pair of a node is the one that has it
-pub pair_found : (pairs : List Pair) (pair : Pair) (x : ℕ) → IsTrue (is_distinct (each pairs pair_nodes)) → In pairs pair → IsTrue (is_of x pair) → find (is_of x) pairs ≡ Some pair
+pub pair_found : (pairs : List Pair) (pair : Pair) (x : ℕ) → IsTrue (is_distinct (each pairs pair_nodes))
+    → In pairs pair → IsTrue (is_of x pair) → find (is_of x) pairs ≡ Some pair
 pair_found [] pair x distinct among of = absurd among
 pair_found (q ∷ qs) pair x distinct (inl e) of =
     ap (λ b. cond b (Some q) (find (is_of x) qs)) (subst (λ p. IsTrue (is_of x p)) e of) ∙ ap Some (sym e)
 pair_found (q ∷ qs) pair x distinct (inr more) of =
-    ap (λ b. cond b (Some q) (find (is_of x) qs)) other ∙ pair_found qs pair x (and_right (not (holds rest q.delivery)) (is_distinct rest) (and_right (not ((q.pickup == q.delivery) || holds rest q.pickup)) _ both)) more of
+    ap (λ b. cond b (Some q) (find (is_of x) qs)) other ∙ pair_found qs pair x
+    (and_right (not (holds rest q.delivery)) (is_distinct rest) (and_right (not ((q.pickup == q.delivery) || holds rest q.pickup)) _ both)) more of
   where
     rest : List ℕ
     rest = each qs pair_nodes
@@ -52,11 +57,13 @@ pair_found (q ∷ qs) pair x distinct (inr more) of =
 
     no_pickup : (q.pickup == x) ≡ false
     no_pickup = fails (q.pickup == x) (λ h. clash (holds rest q.pickup) (subst (λ y. IsTrue (holds rest y)) (sym (eq_of_test q.pickup x h)) there)
-        (or-false_right (q.pickup == q.delivery) (holds rest q.pickup) (fails_not ((q.pickup == q.delivery) || holds rest q.pickup) (and_left (not ((q.pickup == q.delivery) || holds rest q.pickup)) _ both))))
+        (or-false_right (q.pickup == q.delivery) (holds rest q.pickup)
+        (fails_not ((q.pickup == q.delivery) || holds rest q.pickup) (and_left (not ((q.pickup == q.delivery) || holds rest q.pickup)) _ both))))
 
     no_delivery : (q.delivery == x) ≡ false
     no_delivery = fails (q.delivery == x) (λ h. clash (holds rest q.delivery) (subst (λ y. IsTrue (holds rest y)) (sym (eq_of_test q.delivery x h)) there)
-        (fails_not (holds rest q.delivery) (and_left (not (holds rest q.delivery)) (is_distinct rest) (and_right (not ((q.pickup == q.delivery) || holds rest q.pickup)) _ both))))
+        (fails_not (holds rest q.delivery)
+        (and_left (not (holds rest q.delivery)) (is_distinct rest) (and_right (not ((q.pickup == q.delivery) || holds rest q.pickup)) _ both))))
 
     other : is_of x q ≡ false
     other = ap₂ (λ a b. a || b) no_pickup no_delivery
@@ -68,7 +75,8 @@ pub found_turns : (model : Model) (policy : Policy) (list : List ℕ) (x : ℕ) 
 found_turns model policy list x [] each_one = refl
 found_turns model policy list x (pair ∷ pairs) each_one = by (is_of x pair) refl (found_turns model policy list x pairs (λ p among. each_one p (inr among)))
   where
-    by : (b : Bool) → is_of x pair ≡ b → IsTrue (is_in_turn_if_any model policy list (find (is_of x) pairs)) → IsTrue (is_in_turn_if_any model policy list (cond b (Some pair) (find (is_of x) pairs)))
+    by : (b : Bool) → is_of x pair ≡ b → IsTrue (is_in_turn_if_any model policy list (find (is_of x) pairs))
+        → IsTrue (is_in_turn_if_any model policy list (cond b (Some pair) (find (is_of x) pairs)))
     by true is rest = each_one pair (inl refl) is
     by false is rest = rest
 
@@ -91,7 +99,8 @@ pub found_in : (test : Pair → Bool) (pairs : List Pair) (pair : Pair) → find
 found_in test [] pair e = absurd (let no : None ≡ Some pair → ⊥ = λ h. Prim.cc in no e)
 found_in test (q ∷ qs) pair e = by (test q) refl e (found_in test qs pair)
   where
-    by : (b : Bool) → test q ≡ b → cond b (Some q) (find test qs) ≡ Some pair → (find test qs ≡ Some pair → In qs pair × IsTrue (test pair)) → In (q ∷ qs) pair × IsTrue (test pair)
+    by : (b : Bool) → test q ≡ b → cond b (Some q) (find test qs) ≡ Some pair
+        → (find test qs ≡ Some pair → In qs pair × IsTrue (test pair)) → In (q ∷ qs) pair × IsTrue (test pair)
     by true is same later = let is_it : q ≡ pair = Prim.cc in (inl (sym is_it), subst (λ p. IsTrue (test p)) is_it is)
     by false is same later = let r = later same in (inr r.0, r.1)
 
@@ -102,6 +111,8 @@ two_nodes (q ∷ qs) pair distinct (inl e) =
     let both = subst (λ xs. IsTrue (is_distinct xs)) (flat_map-cons pair_nodes q qs) distinct in
     subst (λ (p : Pair). (p.pickup == p.delivery) ≡ false) (sym e)
     (or-false_left (q.pickup == q.delivery) (holds (each qs pair_nodes) q.pickup)
-    (fails_not (holds (q.delivery ∷ each qs pair_nodes) q.pickup) (and_left (not (holds (q.delivery ∷ each qs pair_nodes) q.pickup)) (is_distinct (q.delivery ∷ each qs pair_nodes)) both)))
+    (fails_not (holds (q.delivery ∷ each qs pair_nodes) q.pickup)
+    (and_left (not (holds (q.delivery ∷ each qs pair_nodes) q.pickup)) (is_distinct (q.delivery ∷ each qs pair_nodes)) both)))
 two_nodes (q ∷ qs) pair distinct (inr more) =
-    two_nodes qs pair (is_distinct-right (pair_nodes q) (each qs pair_nodes) (subst (λ xs. IsTrue (is_distinct xs)) (flat_map-cons pair_nodes q qs) distinct)) more
+    two_nodes qs pair
+    (is_distinct-right (pair_nodes q) (each qs pair_nodes) (subst (λ xs. IsTrue (is_distinct xs)) (flat_map-cons pair_nodes q qs) distinct)) more

@@ -31,11 +31,15 @@ module _ {lists : List (List ℕ)} {parts : List ListAfter} (are : AreParts list
 
 pub part_between : {model : Model} {tours : Tours} {parts : List ListAfter} {v front behind : ℕ} {middle : List Piece} {between : List ℕ}
     → IsWellFormed model → AreTours model tours → IsMadeOn tours parts → (k : ℕ) → k < length parts → v ≡ (part_at parts k).vehicle
-    → IsSplice tours.lists (part_at parts k).vehicle (part_at parts k).pieces front behind middle → between ≡ joined tours.lists middle → IsPartBetween model tours.lists (part_at parts k) v front behind between
+    → IsSplice tours.lists (part_at parts k).vehicle (part_at parts k).pieces front behind middle
+    → between ≡ joined tours.lists middle → IsPartBetween model tours.lists (part_at parts k) v front behind between
 part_between {model} {tours} {parts} {v} {front} {behind} {middle} {between} well_formed are made k low same splice is = record {
   same = same;
   vehicle = part_vehicle made.makes.parts_are k low same;
-  long = let before = tour_of model tours are v (part_vehicle made.makes.parts_are k low same) in let few = visits-few model list before.visits before.distinct in omega (arith, few, number);
+  long =
+      let before = tour_of model tours are v (part_vehicle made.makes.parts_are k low same) in
+      let few = visits-few model list before.visits before.distinct in
+      omega (arith, few, number);
   seams = seams;
   whole = whole;
   tour = tour;
@@ -66,8 +70,10 @@ part_between {model} {tours} {parts} {v} {front} {behind} {middle} {between} wel
 
     visits_between : IsTrue (list_all (is_visit model) between)
     visits_between =
-        let rest = and_right (list_all (is_visit model) (take front list)) (list_all (is_visit model) (between ++ drop behind list)) (sym (list_all-append (is_visit model) (take front list) (between ++ drop behind list)) ∙ tour.visits) in
-        and_left (list_all (is_visit model) between) (list_all (is_visit model) (drop behind list)) (sym (list_all-append (is_visit model) between (drop behind list)) ∙ rest)
+        let rest = and_right (list_all (is_visit model) (take front list)) (list_all (is_visit model) (between ++ drop behind list))
+        (sym (list_all-append (is_visit model) (take front list) (between ++ drop behind list)) ∙ tour.visits) in
+        and_left (list_all (is_visit model) between) (list_all (is_visit model) (drop behind list))
+        (sym (list_all-append (is_visit model) between (drop behind list)) ∙ rest)
 
 -- the same of a row as a slice
 pub part_seen : {model : Model} {lists : List (List ℕ)} {part : ListAfter} {v front behind : ℕ} {between seen : List ℕ}

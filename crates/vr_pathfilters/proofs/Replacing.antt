@@ -1,5 +1,6 @@
 -- Which pairs come in turn where other nodes stand in the place of a stretch of a list.
-use Rattle.std.proofs.Common.{◌≡◌, ◌∙◌, ◌⊎◌, inl, inr, ℕ, zero, suc, ◌+◌, ◌-◌, ◌<◌, ◌≤◌, List, ◌++◌, Bool, true, false, length, take, drop, refl, sym, ap, subst, arith}
+use Rattle.std.proofs.Common.{◌≡◌, ◌∙◌, ◌⊎◌, inl, inr, ℕ, zero, suc, ◌+◌, ◌-◌, ◌<◌, ◌≤◌, List, ◌++◌, Bool, true, false, length, take, drop, refl, sym, ap}
+use Rattle.std.proofs.Common.{subst, arith}
 use Rattle.std.specs.Prelude.{IsTrue, ◌==◌, nat_lt}
 use Rattle.std.specs.List.{list_all}
 use Rattle.std.proofs.lemmas.Bool.{cases_lt}
@@ -28,7 +29,8 @@ use Rattle.vr_pathfilters.proofs.Turning.{are_served, balanced, deliveries_first
 
 -- ---- other nodes in the place of a stretch
 
-module _ (model : Model) (well_formed : IsWellFormed model) (old middle : List ℕ) (front behind : ℕ) (seams : AreSeams (length old) front behind) (was : Serves model old) (is : Serves model (spliced old front behind middle)) where
+module _ (model : Model) (well_formed : IsWellFormed model) (old middle : List ℕ) (front behind : ℕ)
+    (seams : AreSeams (length old) front behind) (was : Serves model old) (is : Serves model (spliced old front behind middle)) where
   abbrev new : List ℕ
   new = spliced old front behind middle
 
@@ -84,7 +86,8 @@ module _ (model : Model) (well_formed : IsWellFormed model) (old middle : List �
       omega (arith, p, d, a, b, a_now, b_now, change)
 
   abbrev Kept : ℕ → Type 0
-  Kept x = ((place_of new x < front) × (place_of old x ≡ place_of new x)) ⊎ ((j : ℕ) × (place_of new x ≡ until + j) × (place_of old x ≡ behind + j) × (behind + j < length old))
+  Kept x = ((place_of new x < front) × (place_of old x ≡ place_of new x))
+      ⊎ ((j : ℕ) × (place_of new x ≡ until + j) × (place_of old x ≡ behind + j) × (behind + j < length old))
 
   at_place : (x : ℕ) → Kept x → AreAlike (place_of new x) (place_of old x)
   at_place x (inl (low, e)) = inl (omega (arith, low), e)
@@ -112,8 +115,10 @@ module _ (model : Model) (well_formed : IsWellFormed model) (old middle : List �
       test_of_eq (picked new (s + 1) + delivered new e) (picked new e + delivered new (s + 1)) (omega (arith, a, b, before))
 
   -- the pair of a new node comes in turn, where all such pairs do
-  turn_by_node : (policy : Policy) → IsTrue (list_all (comes_in_turn model policy new) middle) → (pair : Pair) → In model.pairs pair → (x : ℕ) → IsTrue (is_of x pair) → IsTrue (holds middle x) → IsTrue (is_in_turn model policy new pair)
-  turn_by_node policy come pair among x of held = subst (λ found. IsTrue (is_in_turn_if_any model policy new found)) (pair_found model.pairs pair x well_formed.no_node_in_pairs_twice among of) (all_held (comes_in_turn model policy new) middle come x held)
+  turn_by_node : (policy : Policy) → IsTrue (list_all (comes_in_turn model policy new) middle) → (pair : Pair)
+      → In model.pairs pair → (x : ℕ) → IsTrue (is_of x pair) → IsTrue (holds middle x) → IsTrue (is_in_turn model policy new pair)
+  turn_by_node policy come pair among x of held = subst (λ found. IsTrue (is_in_turn_if_any model policy new found))
+      (pair_found model.pairs pair x well_formed.no_node_in_pairs_twice among of) (all_held (comes_in_turn model policy new) middle come x held)
 
   abbrev begins : Pair → ℕ
   begins pair = place_of new pair.pickup
@@ -122,7 +127,8 @@ module _ (model : Model) (well_formed : IsWellFormed model) (old middle : List �
   ends pair = place_of new pair.delivery
 
   -- first in first out, a pair begins before the new nodes and ends behind them
-  module _ (turns : IsTrue (takes_turns model Fifo old)) (come : IsTrue (list_all (comes_in_turn model Fifo new) middle)) (x : Pair) (among : In model.pairs x) (start : begins x < front) (start_then : place_of old x.pickup ≡ begins x)
+  module _ (turns : IsTrue (takes_turns model Fifo old)) (come : IsTrue (list_all (comes_in_turn model Fifo new) middle))
+      (x : Pair) (among : In model.pairs x) (start : begins x < front) (start_then : place_of old x.pickup ≡ begins x)
       (j : ℕ) (end : ends x ≡ until + j) (end_then : place_of old x.delivery ≡ behind + j) where
     starts_within : begins x < length new
     starts_within = let n = long old middle front behind seams in omega (arith, n, start)
@@ -168,18 +174,20 @@ module _ (model : Model) (well_formed : IsWellFormed model) (old middle : List �
               | inl low ↦ omega (arith, low, after)
               | inr past ↦ absurd (none_sooner w too less past)
             ]
-        by false none = elim (kept_place old middle front behind seams was.distinct is.distinct z.pickup (let o = order in let h = high in omega (arith, o, before, h)) none) [
-          | inl (low, e) ↦ omega (arith, low, after)
-          | inr (i, now, then, low) ↦ (
-              let seam = seams.order in
-              let later = ends_later z there (omega (arith, then, low)) (omega (arith, start, start_then, seam, then)) in
-              omega (arith, later, before))
-        ]
+        by false none = elim (kept_place old middle front behind seams was.distinct is.distinct
+            z.pickup (let o = order in let h = high in omega (arith, o, before, h)) none) [
+              | inl (low, e) ↦ omega (arith, low, after)
+              | inr (i, now, then, low) ↦ (
+                  let seam = seams.order in
+                  let later = ends_later z there (omega (arith, then, low)) (omega (arith, start, start_then, seam, then)) in
+                  omega (arith, later, before))
+            ]
 
     -- so there is none
     none_between : (k : ℕ) (z : Pair) → In model.pairs z → ends z < k → front ≤ begins z → ends z < ends x → ⊥
     none_between zero z there fuel after before = omega (arith, fuel)
-    none_between (suc k) z there fuel after before = no_first z there after before (λ w too less past. none_between k w too (omega (arith, less, fuel)) past (omega (arith, less, before)))
+    none_between (suc k) z there fuel after before =
+        no_first z there after before (λ w too less past. none_between k w too (omega (arith, less, fuel)) past (omega (arith, less, before)))
 
     crossing : IsTrue (is_in_turn model Fifo new x)
     crossing =
@@ -206,7 +214,8 @@ module _ (model : Model) (well_formed : IsWellFormed model) (old middle : List �
             elim (cases_lt (ends z) (ends x)) [
               | inl before ↦ test_of_lt (ends z) (ends x) before
               | inr past ↦ absurd
-                  (let out = first_out model well_formed old was.distinct was.each_pair turns z x there among s.1 started_within (omega (arith, e, order, start_then)) in
+                  (let out = first_out model well_formed old was.distinct was.each_pair turns
+                  z x there among s.1 started_within (omega (arith, e, order, start_then)) in
                   let low = starts_within in
                   let within = (are_now.of_pickup z there (omega (arith, order, low))).1 in
                   let i : ℕ = ends z - until in
@@ -222,7 +231,9 @@ module _ (model : Model) (well_formed : IsWellFormed model) (old middle : List �
               | inr past ↦ absurd (elim (cases_lt (begins z) front) [
                 | inr behind_front ↦ none_between (suc (ends z)) z there (omega arith) behind_front order
                 | inl low ↦ elim (cases_lt (begins x) (begins z)) [
-                  | inr no_more ↦ (let e = are_now.apart z x there among (let n = long old middle front behind seams in omega (arith, low, n)) (omega (arith, past, no_more)) in omega (arith, e, order))
+                  | inr no_more ↦ (let e = are_now.apart z x there among
+                      (let n = long old middle front behind seams in omega (arith, low, n)) (omega (arith, past, no_more)) in
+                      omega (arith, e, order))
                   | inl more ↦ (
                       let s = stood_so z low in
                       let e = s.0 in
@@ -232,7 +243,8 @@ module _ (model : Model) (well_formed : IsWellFormed model) (old middle : List �
               ])
             ]
 
-  first_kept : IsTrue (takes_turns model Fifo old) → IsTrue (list_all (comes_in_turn model Fifo new) middle) → (pair : Pair) → In model.pairs pair → place_of new pair.pickup < length new
+  first_kept : IsTrue (takes_turns model Fifo old) → IsTrue (list_all (comes_in_turn model Fifo new) middle)
+      → (pair : Pair) → In model.pairs pair → place_of new pair.pickup < length new
       → Kept pair.pickup → Kept pair.delivery → IsTrue (is_in_turn model Fifo old pair) → IsTrue (is_in_turn model Fifo new pair)
   first_kept turns come pair among low (inl (front_low, e)) (inl (front_too, g)) turn =
       let s = place_of new pair.pickup in
@@ -257,7 +269,8 @@ module _ (model : Model) (well_formed : IsWellFormed model) (old middle : List �
       let change = same_change in
       test_of_eq (picked new s) (delivered new t) (omega (arith, before, a, a_now, a_old, b, b_now, b_old, change))
 
-  kept : (policy : Policy) → IsTrue (takes_turns model policy old) → IsTrue (list_all (comes_in_turn model policy new) middle) → (pair : Pair) → In model.pairs pair → place_of new pair.pickup < length new
+  kept : (policy : Policy) → IsTrue (takes_turns model policy old) → IsTrue (list_all (comes_in_turn model policy new) middle)
+      → (pair : Pair) → In model.pairs pair → place_of new pair.pickup < length new
       → Kept pair.pickup → Kept pair.delivery → IsTrue (is_in_turn model policy old pair) → IsTrue (is_in_turn model policy new pair)
   kept Any turns come pair among low start end turn = refl
   kept Lifo turns come pair among low start end turn = last_kept pair start end turn
@@ -265,19 +278,23 @@ module _ (model : Model) (well_formed : IsWellFormed model) (old middle : List �
 
   -- ---- the test tells
 
-  all_turn : (policy : Policy) → IsTrue (takes_turns model policy old) → IsTrue (takes_turns_between model policy old front behind middle) → IsTrue (takes_turns model policy new)
+  all_turn : (policy : Policy) → IsTrue (takes_turns model policy old)
+      → IsTrue (takes_turns_between model policy old front behind middle) → IsTrue (takes_turns model policy new)
   all_turn policy turns come = turns_of model well_formed new is.distinct is.each_pair policy by
     where
       by : (pair : Pair) → In model.pairs pair → place_of new pair.pickup < length new → IsTrue (is_in_turn model policy new pair)
       by pair among low = cases (holds middle pair.pickup) (holds middle pair.delivery) refl refl
         where
           cases : (a b : Bool) → holds middle pair.pickup ≡ a → holds middle pair.delivery ≡ b → IsTrue (is_in_turn model policy new pair)
-          cases true b e f = turn_by_node policy come pair among pair.pickup (or_left (pair.pickup == pair.pickup) (pair.delivery == pair.pickup) (test_of_eq pair.pickup pair.pickup refl)) e
-          cases false true e f = turn_by_node policy come pair among pair.delivery (or_right (pair.pickup == pair.delivery) (pair.delivery == pair.delivery) (test_of_eq pair.delivery pair.delivery refl)) f
+          cases true b e f = turn_by_node policy come pair among pair.pickup
+              (or_left (pair.pickup == pair.pickup) (pair.delivery == pair.pickup) (test_of_eq pair.pickup pair.pickup refl)) e
+          cases false true e f = turn_by_node policy come pair among pair.delivery
+              (or_right (pair.pickup == pair.delivery) (pair.delivery == pair.delivery) (test_of_eq pair.delivery pair.delivery refl)) f
           cases false false e f =
               let start = kept_place old middle front behind seams was.distinct is.distinct pair.pickup low e in
               let end = kept_place old middle front behind seams was.distinct is.distinct pair.delivery (are_now.of_pickup pair among low).1 f in
-              kept policy turns come pair among low start end (turn_of model well_formed old was.distinct was.each_pair policy turns pair among (stood pair.pickup start))
+              kept policy turns come pair among low start end
+              (turn_of model well_formed old was.distinct was.each_pair policy turns pair among (stood pair.pickup start))
 
   -- ---- where all come in turn, the test passes
 
@@ -302,8 +319,11 @@ module _ (model : Model) (well_formed : IsWellFormed model) (old middle : List �
                   ∙ or_right (holds (take front old) x) (holds (middle ++ drop behind old) x)
                   (list_any-append (λ y. x == y) middle (drop behind old) ∙ or_left (holds middle x) (holds (drop behind old) x) held)
 
-  pub turns-between : (policy : Policy) → IsTrue (takes_turns model policy old) → takes_turns_between model policy old front behind middle ≡ takes_turns model policy new
-  turns-between policy turns = same_tests (takes_turns_between model policy old front behind middle) (takes_turns model policy new) (all_turn policy turns) (come_in_turn policy)
+  pub turns-between : (policy : Policy) → IsTrue (takes_turns model policy old)
+      → takes_turns_between model policy old front behind middle ≡ takes_turns model policy new
+  turns-between policy turns =
+      same_tests (takes_turns_between model policy old front behind middle) (takes_turns model policy new) (all_turn policy turns) (come_in_turn policy)
 
 pub turns_are_between : TurnsAreBetween
-turns_are_between model policy old middle front behind well_formed seams was is turns = turns-between model well_formed old middle front behind seams was is policy turns
+turns_are_between model policy old middle front behind well_formed seams was is turns =
+    turns-between model well_formed old middle front behind seams was is policy turns

@@ -36,7 +36,8 @@ module _ (f : ℕ → Bool) (old middle : List ℕ) (front behind : ℕ) (seams 
   kept = length-take-le front old (let a = seams.order in let b = seams.high in omega (arith, a, b))
 
   pub in_front : (k : ℕ) → k ≤ front → count_by f (take k new) ≡ count_by f (take k old)
-  in_front k low = ap (count_by f) (sym (take-take k front new low) ∙ (ap (take k) (sym (shares_front old middle front behind seams).same) ∙ take-take k front old low))
+  in_front k low =
+      ap (count_by f) (sym (take-take k front new low) ∙ (ap (take k) (sym (shares_front old middle front behind seams).same) ∙ take-take k front old low))
 
   from_front : (k : ℕ) → take (front + k) new ≡ take front old ++ take k (middle ++ drop behind old)
   from_front k = ap (λ n. take (n + k) new) (sym kept) ∙ take-append-add (take front old) (middle ++ drop behind old) k
@@ -47,20 +48,25 @@ module _ (f : ℕ → Bool) (old middle : List ℕ) (front behind : ℕ) (seams 
       ∙ count_joined f (take front old) (take j middle)
 
   pub at_end_of_middle : count_by f (take (front + length middle) new) ≡ count_by f (take front old) + count_by f middle
-  at_end_of_middle = in_middle (length middle) (omega arith) ∙ ap (λ xs. count_by f (take front old) + count_by f xs) (take_all (length middle) middle (omega arith))
+  at_end_of_middle = in_middle (length middle) (omega arith)
+      ∙ ap (λ xs. count_by f (take front old) + count_by f xs) (take_all (length middle) middle (omega arith))
 
-  pub in_back : (j : ℕ) → count_by f (take (front + length middle + j) new) + count_by f (take behind old) ≡ count_by f (take (behind + j) old) + count_by f (take (front + length middle) new)
+  pub in_back : (j : ℕ) → count_by f (take (front + length middle + j) new) + count_by f (take behind old)
+      ≡ count_by f (take (behind + j) old) + count_by f (take (front + length middle) new)
   in_back j =
       let e : front + (length middle + j) ≡ front + length middle + j = omega arith in
-      let a = sym (ap (λ n. count_by f (take n new)) e) ∙ (ap (count_by f) (from_front (length middle + j) ∙ ap (λ xs. take front old ++ xs) (take-append-add middle (drop behind old) j))
-      ∙ (count_joined f (take front old) (middle ++ take j (drop behind old)) ∙ ap (λ n. count_by f (take front old) + n) (count_joined f middle (take j (drop behind old))))) in
+      let a = sym (ap (λ n. count_by f (take n new)) e)
+      ∙ (ap (count_by f) (from_front (length middle + j) ∙ ap (λ xs. take front old ++ xs) (take-append-add middle (drop behind old) j))
+      ∙ (count_joined f (take front old) (middle ++ take j (drop behind old))
+      ∙ ap (λ n. count_by f (take front old) + n) (count_joined f middle (take j (drop behind old))))) in
       let b = count_split f behind j old in
       let c = at_end_of_middle in
       omega (arith, a, b, c)
 
 -- ---- places
 
-module _ (old middle : List ℕ) (front behind : ℕ) (seams : AreSeams (length old) front behind) (distinct_old : IsTrue (is_distinct old)) (distinct : IsTrue (is_distinct (spliced old front behind middle))) where
+module _ (old middle : List ℕ) (front behind : ℕ) (seams : AreSeams (length old) front behind)
+    (distinct_old : IsTrue (is_distinct old)) (distinct : IsTrue (is_distinct (spliced old front behind middle))) where
   abbrev changed : List ℕ
   changed = spliced old front behind middle
 
@@ -84,7 +90,8 @@ module _ (old middle : List ℕ) (front behind : ℕ) (seams : AreSeams (length 
       sym (place_is old x (place_of changed x) distinct_old (omega (arith, low, order, high))
       (sym (at_front old middle front behind seams (place_of changed x) low) ∙ place_found changed x (omega (arith, n, low))))
 
-  pub kept_back : (x j : ℕ) → place_of changed x ≡ front + length middle + j → place_of changed x < length changed → (place_of old x ≡ behind + j) × (behind + j < length old)
+  pub kept_back : (x j : ℕ) → place_of changed x ≡ front + length middle + j
+      → place_of changed x < length changed → (place_of old x ≡ behind + j) × (behind + j < length old)
   kept_back x j now low =
       let k : ℕ = place_of changed x in
       let n = long old middle front behind seams in
@@ -92,7 +99,8 @@ module _ (old middle : List ℕ) (front behind : ℕ) (seams : AreSeams (length 
       let same : k - front - length middle + behind ≡ behind + j = omega (arith, now) in
       let low_too : behind + j < length old = omega (arith, low, n, now, high) in (
         sym (place_is old x (behind + j) distinct_old low_too
-            (ap (slice_index old) (sym same) ∙ (sym (at_back old middle front behind seams k (omega (arith, now)) (omega (arith, now))) ∙ place_found changed x low))),
+            (ap (slice_index old) (sym same)
+            ∙ (sym (at_back old middle front behind seams k (omega (arith, now)) (omega (arith, now))) ∙ place_found changed x low))),
         low_too,
       )
 
@@ -104,7 +112,8 @@ module _ (old middle : List ℕ) (front behind : ℕ) (seams : AreSeams (length 
       elim (cases_lt k front) [
         | inl before ↦ inl (before, kept_front x before)
         | inr past ↦ elim (cases_lt (k - front) (length middle)) [
-          | inl inside ↦ absurd (clash (holds middle x) (held_at middle x (k - front) inside (sym (at_middle old middle front behind seams k past inside) ∙ at)) none)
+          | inl inside ↦
+              absurd (clash (holds middle x) (held_at middle x (k - front) inside (sym (at_middle old middle front behind seams k past inside) ∙ at)) none)
           | inr later ↦ (
               let j : ℕ = k - front - length middle in
               let now : k ≡ front + length middle + j = omega (arith, past, later) in

@@ -1,5 +1,6 @@
 -- The pairs of a list come in turn exactly where the list keeps a policy.
-use Rattle.std.proofs.Common.{◌≡◌, ◌∙◌, ℕ, ◌+◌, ◌<◌, ◌≤◌, List, [], ◌∷◌, ◌++◌, Bool, true, false, cond, not, length, take, refl, sym, ap, ap₂, subst, inl, inr, arith}
+use Rattle.std.proofs.Common.{◌≡◌, ◌∙◌, ℕ, ◌+◌, ◌<◌, ◌≤◌, List, [], ◌∷◌, ◌++◌, Bool, true, false, cond, not, length, take, refl, sym, ap, ap₂, subst, inl, inr}
+use Rattle.std.proofs.Common.{arith}
 use Rattle.std.specs.Prelude.{IsTrue, nat_lt, ◌==◌, ◌&&◌, ◌||◌, count_by, map, slice_index}
 use Rattle.std.specs.List.{list_all}
 use Rattle.std.proofs.lemmas.Bool.{cases_lt}
@@ -52,7 +53,8 @@ module _ (f : Pair → ℕ) (is_node : (pair : Pair) → IsTrue (holds (pair_nod
       subst (λ xs. IsTrue (holds xs x)) (sym (flat_map-cons pair_nodes q qs))
       (list_any-append (λ y. x == y) (pair_nodes q) (each qs pair_nodes)
       ∙ (elim (or_cases (x == f q) (holds (map f qs) x) held) [
-        | inl here ↦ or_left (holds (pair_nodes q) x) (holds (each qs pair_nodes) x) (subst (λ y. IsTrue (holds (pair_nodes q) y)) (sym (eq_of_test x (f q) here)) (is_node q))
+        | inl here ↦ or_left (holds (pair_nodes q) x) (holds (each qs pair_nodes) x)
+            (subst (λ y. IsTrue (holds (pair_nodes q) y)) (sym (eq_of_test x (f q) here)) (is_node q))
         | inr later ↦ or_right (holds (pair_nodes q) x) (holds (each qs pair_nodes) x) (held_among qs x later)
       ]))
 
@@ -71,10 +73,14 @@ module _ (f : Pair → ℕ) (is_node : (pair : Pair) → IsTrue (holds (pair_nod
       (numbers_distinct qs (is_distinct-right (pair_nodes q) (each qs pair_nodes) both))
 
 pub pickups_distinct : (model : Model) → IsWellFormed model → IsTrue (is_distinct (map pickup_of model.pairs))
-pickups_distinct model well_formed = numbers_distinct pickup_of (λ pair. or_left (pair.pickup == pair.pickup) (holds (pair.delivery ∷ []) pair.pickup) (test_of_eq pair.pickup pair.pickup refl)) model.pairs well_formed.no_node_in_pairs_twice
+pickups_distinct model well_formed =
+    numbers_distinct pickup_of (λ pair. or_left (pair.pickup == pair.pickup) (holds (pair.delivery ∷ []) pair.pickup) (test_of_eq pair.pickup pair.pickup refl))
+    model.pairs well_formed.no_node_in_pairs_twice
 
 pub deliveries_distinct : (model : Model) → IsWellFormed model → IsTrue (is_distinct (map delivery_of model.pairs))
-deliveries_distinct model well_formed = numbers_distinct delivery_of (λ pair. or_right (pair.delivery == pair.pickup) (holds (pair.delivery ∷ []) pair.delivery) (or_left (pair.delivery == pair.delivery) false (test_of_eq pair.delivery pair.delivery refl))) model.pairs well_formed.no_node_in_pairs_twice
+deliveries_distinct model well_formed = numbers_distinct delivery_of
+    (λ pair. or_right (pair.delivery == pair.pickup) (holds (pair.delivery ∷ []) pair.delivery)
+    (or_left (pair.delivery == pair.delivery) false (test_of_eq pair.delivery pair.delivery refl))) model.pairs well_formed.no_node_in_pairs_twice
 
 -- ---- a list that serves its pairs
 
@@ -87,7 +93,8 @@ served_within p d n is low = Prim.grind (arith, nat_tests)
 served_before : (p d n : ℕ) → cond (nat_lt p d) (nat_lt d n) (d == n) ≡ true → d < n → p < d
 served_before p d n is low = Prim.grind (arith, nat_tests)
 
-module _ (model : Model) (well_formed : IsWellFormed model) (list : List ℕ) (distinct : IsTrue (is_distinct list)) (serves : IsTrue (list_all (serves_pair list) model.pairs)) where
+module _ (model : Model) (well_formed : IsWellFormed model) (list : List ℕ)
+    (distinct : IsTrue (is_distinct list)) (serves : IsTrue (list_all (serves_pair list) model.pairs)) where
   abbrev pub start : Pair → ℕ
   start pair = place_of list pair.pickup
 
@@ -99,7 +106,8 @@ module _ (model : Model) (well_formed : IsWellFormed model) (list : List ℕ) (d
 
   pub are_served : AreServed model.pairs start end (length list)
   are_served = record {
-    of_pickup = λ x among low. (served_after (start x) (end x) (length list) (is_served x among) low, served_within (start x) (end x) (length list) (is_served x among) low);
+    of_pickup = λ x among low.
+        (served_after (start x) (end x) (length list) (is_served x among) low, served_within (start x) (end x) (length list) (is_served x among) low);
     of_delivery = λ x among low. served_before (start x) (end x) (length list) (is_served x among) low;
     apart = λ x y among there low same.
         let at = place_found list x.pickup low in
@@ -141,19 +149,25 @@ module _ (model : Model) (well_formed : IsWellFormed model) (list : List ℕ) (d
   inside_of : (x : Pair) → In model.pairs x → start x < length list → In inside x
   inside_of x among low = to_filter (λ pair. holds list pair.pickup) model.pairs x among (holds-place list x.pickup ∙ test_of_lt (start x) (length list) low)
 
-  allowed : (policy : Policy) → IsTrue (keeps policy) → (x y : Pair) → In model.pairs x → In model.pairs y → start x < length list → start y < length list → IsTrue (policy_allows policy list x y)
+  allowed : (policy : Policy) → IsTrue (keeps policy) → (x y : Pair) → In model.pairs x → In model.pairs y
+      → start x < length list → start y < length list → IsTrue (policy_allows policy list x y)
   allowed policy kept x y among there low low_too =
-      one_passes (λ y. policy_allows policy list x y) inside (one_passes (λ x. list_all (λ y. policy_allows policy list x y) inside) inside kept x (inside_of x among low)) y (inside_of y there low_too)
+      one_passes (λ y. policy_allows policy list x y) inside
+      (one_passes (λ x. list_all (λ y. policy_allows policy list x y) inside) inside kept x (inside_of x among low)) y (inside_of y there low_too)
 
-  all_allowed : (policy : Policy) → ((x y : Pair) → In model.pairs x → In model.pairs y → start x < length list → start y < length list → IsTrue (policy_allows policy list x y)) → IsTrue (keeps policy)
+  all_allowed : (policy : Policy)
+      → ((x y : Pair) → In model.pairs x → In model.pairs y → start x < length list → start y < length list → IsTrue (policy_allows policy list x y))
+      → IsTrue (keeps policy)
   all_allowed policy each_two =
       all_pass (λ x. list_all (λ y. policy_allows policy list x y) inside) inside (λ x among. all_pass (λ y. policy_allows policy list x y) inside (λ y there.
       let a = low_of x among in let b = low_of y there in each_two x y a.0 b.0 a.1 b.1))
 
-  pub turn_of : (policy : Policy) → IsTrue (takes_turns model policy list) → (x : Pair) → In model.pairs x → start x < length list → IsTrue (is_in_turn model policy list x)
+  pub turn_of : (policy : Policy) → IsTrue (takes_turns model policy list) → (x : Pair)
+      → In model.pairs x → start x < length list → IsTrue (is_in_turn model policy list x)
   turn_of policy turns x among low = one_passes (is_in_turn model policy list) inside turns x (inside_of x among low)
 
-  pub turns_of : (policy : Policy) → ((x : Pair) → In model.pairs x → start x < length list → IsTrue (is_in_turn model policy list x)) → IsTrue (takes_turns model policy list)
+  pub turns_of : (policy : Policy) → ((x : Pair) → In model.pairs x → start x < length list → IsTrue (is_in_turn model policy list x))
+      → IsTrue (takes_turns model policy list)
   turns_of policy each_one = all_pass (is_in_turn model policy list) inside (λ x among. let a = low_of x among in each_one x a.0 a.1)
 
   abbrev early : ℕ → ℕ
@@ -167,7 +181,8 @@ module _ (model : Model) (well_formed : IsWellFormed model) (list : List ℕ) (d
       let within = (are_served.of_pickup x among low).1 in
       ap₂ (λ a b. a == b) (pickups_first (start x) (omega (arith, low))) (deliveries_first (end x) (omega (arith, within)))
 
-  last_turn : (x : Pair) → In model.pairs x → start x < length list → is_in_turn model Lifo list x ≡ ((early (start x + 1) + late (end x)) == (early (end x) + late (start x + 1)))
+  last_turn : (x : Pair) → In model.pairs x → start x < length list
+      → is_in_turn model Lifo list x ≡ ((early (start x + 1) + late (end x)) == (early (end x) + late (start x + 1)))
   last_turn x among low =
       let within = (are_served.of_pickup x among low).1 in
       ap₂ (λ a b. a == b)
@@ -196,7 +211,8 @@ module _ (model : Model) (well_formed : IsWellFormed model) (list : List ℕ) (d
   ]
 
   -- where the pairs come in turn, the first in is the first out
-  pub first_out : IsTrue (takes_turns model Fifo list) → (x y : Pair) → In model.pairs x → In model.pairs y → start x < length list → start y < length list → start x < start y → end x < end y
+  pub first_out : IsTrue (takes_turns model Fifo list) → (x y : Pair) → In model.pairs x
+      → In model.pairs y → start x < length list → start y < length list → start x < start y → end x < end y
   first_out turns = counts_first model.pairs start end (length list) are_served
       (λ z among low. eq_of_test (early (start z)) (late (end z)) (sym (first_turn z among low) ∙ turn_of Fifo turns z among low))
 
@@ -214,7 +230,8 @@ module _ (model : Model) (well_formed : IsWellFormed model) (list : List ℕ) (d
       (λ x y a b l m order span. last_order (start x) (start y) (end x) (end y) (allowed Lifo kept x y a b l m) order span) x among low)))
       (λ turns. all_allowed Lifo (λ x y a b l m. order_last (start x) (start y) (end x) (end y)
       (counts_last model.pairs start end (length list) are_served
-      (λ z among low. eq_of_test (early (start z + 1) + late (end z)) (early (end z) + late (start z + 1)) (sym (last_turn z among low) ∙ turn_of Lifo turns z among low)) x y a b l m)))
+      (λ z among low. eq_of_test (early (start z + 1) + late (end z)) (early (end z) + late (start z + 1))
+      (sym (last_turn z among low) ∙ turn_of Lifo turns z among low)) x y a b l m)))
 
   pub turning : (policy : Policy) → keeps policy ≡ takes_turns model policy list
   turning Any =

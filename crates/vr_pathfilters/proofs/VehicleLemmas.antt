@@ -25,19 +25,22 @@ module _ (p : ℕ → Bool) where
   all-drop xs k all = and_right (list_all p (take k xs)) (list_all p (drop k xs)) (parted xs k all)
 
   -- a chain of the list
-  pub all-of_chain : (lists : List (List ℕ)) (v from to : ℕ) (reversed : Bool) → IsTrue (list_all p (route lists v)) → IsTrue (list_all p (nodes_of lists (Chain v from to reversed)))
+  pub all-of_chain : (lists : List (List ℕ)) (v from to : ℕ) (reversed : Bool)
+      → IsTrue (list_all p (route lists v)) → IsTrue (list_all p (nodes_of lists (Chain v from to reversed)))
   all-of_chain lists v from to reversed all =
       all-chain p lists v from to reversed ∙ all-take (drop from (route lists v)) (to - from) (all-drop (route lists v) from all)
 
   -- pieces that are joined
-  pub all-joined : (lists : List (List ℕ)) (pieces : List Piece) → list_all p (joined lists pieces) ≡ list_all (λ piece. list_all p (nodes_of lists piece)) pieces
+  pub all-joined : (lists : List (List ℕ)) (pieces : List Piece)
+      → list_all p (joined lists pieces) ≡ list_all (λ piece. list_all p (nodes_of lists piece)) pieces
   all-joined lists [] = refl
   all-joined lists (x ∷ xs) =
       ap (list_all p) (flat_map-cons (nodes_of lists) x xs) ∙ (list_all-append p (nodes_of lists x) (joined lists xs)
       ∙ ap (λ b. list_all p (nodes_of lists x) && b) (all-joined lists xs))
 
   -- a list that keeps the front and the end of another one
-  pub all-spliced : (old middle : List ℕ) (front behind : ℕ) → IsTrue (list_all p old) → list_all p (take front old ++ (middle ++ drop behind old)) ≡ list_all p middle
+  pub all-spliced : (old middle : List ℕ) (front behind : ℕ) → IsTrue (list_all p old)
+      → list_all p (take front old ++ (middle ++ drop behind old)) ≡ list_all p middle
   all-spliced old middle front behind all =
       list_all-append p (take front old) (middle ++ drop behind old)
       ∙ (ap₂ (λ a b. a && b) (all-take old front all) (list_all-append p middle (drop behind old)

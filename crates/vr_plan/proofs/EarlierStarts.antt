@@ -1,5 +1,6 @@
 -- A break of a schedule may start earlier in its place.
-use Rattle.std.proofs.Common.{◌≡◌, ℕ, zero, suc, ◌+◌, ◌<◌, ◌≢◌, ◌≤◌, true, false, Bool, cond, ◌&&◌, length, set, ℤ, pos, ◌+ℤ◌, ◌≤ℤ◌, ◌⊎◌, inl, inr, refl, sym, subst, ap, ◌∙◌, arith}
+use Rattle.std.proofs.Common.{◌≡◌, ℕ, zero, suc, ◌+◌, ◌<◌, ◌≢◌, ◌≤◌, true, false, Bool, cond, ◌&&◌, length, set, ℤ, pos, ◌+ℤ◌, ◌≤ℤ◌, ◌⊎◌, inl, inr, refl, sym}
+use Rattle.std.proofs.Common.{subst, ap, ◌∙◌, arith}
 use Rattle.std.specs.Prelude.{IsTrue, EachIndex, int_le}
 use Rattle.std.specs.List.{range_with_len}
 use Rattle.std.proofs.lemmas.Int.{ints}
@@ -34,7 +35,9 @@ StandsAt line plan i e = IsTrue (is_before line plan i)
     ⊎ (IsTrue (is_after line plan i) × (cumul plan (length line.arcs) ≤ℤ e))
     ⊎ ((k : ℕ) × (k < length line.arcs) × IsTrue (is_inside line plan i k) × ((cumul plan k +ℤ (arc_at line k).visit) ≤ℤ e))
 
-module _ (line : Line) (sound : IsSound line) (plan : Plan) (s : IsSchedule line plan) (i : ℕ) (there : i < length line.breaks) (e : ℤ) (earlier : e ≤ℤ break_start plan i) (from : (break_at line i).from ≤ℤ e) (behind : (j : ℕ) → suc j ≡ i → break_end line plan j ≤ℤ e) (stands : StandsAt line plan i e) where
+module _ (line : Line) (sound : IsSound line) (plan : Plan) (s : IsSchedule line plan) (i : ℕ)
+    (there : i < length line.breaks) (e : ℤ) (earlier : e ≤ℤ break_start plan i) (from : (break_at line i).from ≤ℤ e)
+    (behind : (j : ℕ) → suc j ≡ i → break_end line plan j ≤ℤ e) (stands : StandsAt line plan i e) where
   in_starts : i < length plan.breaks
   in_starts = let n = s.start_of_each_break in omega (arith, there, n)
 
@@ -61,10 +64,18 @@ module _ (line : Line) (sound : IsSound line) (plan : Plan) (s : IsSchedule line
   inside_there k lt now = stood stands
     where
       low : (cumul plan k +ℤ (arc_at line k).visit) ≤ℤ e
-      low = let m = le_of_test (cumul plan k +ℤ (arc_at line k).visit) (break_start (moved plan i e) i) (and_left (int_le (cumul plan k +ℤ (arc_at line k).visit) (break_start (moved plan i e) i)) _ now) in let n = start_there in omega (arith, ints, m, n)
+      low =
+          let m = le_of_test (cumul plan k +ℤ (arc_at line k).visit) (break_start (moved plan i e) i)
+          (and_left (int_le (cumul plan k +ℤ (arc_at line k).visit) (break_start (moved plan i e) i)) _ now) in
+          let n = start_there in
+          omega (arith, ints, m, n)
 
       high : (e +ℤ (break_at line i).duration) ≤ℤ cumul plan (suc k)
-      high = let m = le_of_test (break_end line (moved plan i e) i) (cumul plan (suc k)) (and_right (int_le (cumul plan k +ℤ (arc_at line k).visit) (break_start (moved plan i e) i)) _ now) in let n = start_there in omega (arith, ints, m, n)
+      high =
+          let m = le_of_test (break_end line (moved plan i e) i) (cumul plan (suc k))
+          (and_right (int_le (cumul plan k +ℤ (arc_at line k).visit) (break_start (moved plan i e) i)) _ now) in
+          let n = start_there in
+          omega (arith, ints, m, n)
 
       stood : StandsAt line plan i e → IsTrue (is_inside line plan i k)
       stood (inl t) = absurd (
@@ -85,7 +96,8 @@ module _ (line : Line) (sound : IsSound line) (plan : Plan) (s : IsSchedule line
             omega (arith, ints, up, v, d, begin, high))
         | inr l ↦ elim (cases_lt j k) [
           | inl m ↦ absurd (
-              let over = le_of_test (break_end line plan i) (cumul plan (suc j)) (and_right (int_le (cumul plan j +ℤ (arc_at line j).visit) (break_start plan i)) _ t) in
+              let over = le_of_test (break_end line plan i) (cumul plan (suc j))
+              (and_right (int_le (cumul plan j +ℤ (arc_at line j).visit) (break_start plan i)) _ t) in
               let up = ascends (suc j) k (omega (arith, m)) (omega (arith, lt)) in
               let v = sound.visits k lt in
               let d = sound.durations i there in
@@ -97,7 +109,8 @@ module _ (line : Line) (sound : IsSound line) (plan : Plan) (s : IsSchedule line
   -- a break that stays stands where it stood
   inside_now : (j k : ℕ) → k < length line.arcs → IsTrue (is_inside line (moved plan i e) j k) → IsTrue (is_inside line plan j k)
   inside_now j k lt = same_or_not (λ j. IsTrue (is_inside line (moved plan i e) j k) → IsTrue (is_inside line plan j k)) (inside_there k lt)
-      (λ j h now. subst (λ z. IsTrue (int_le (cumul plan k +ℤ (arc_at line k).visit) z && int_le (z +ℤ (break_at line j).duration) (cumul plan (suc k)))) (start_other j h) now) j
+      (λ j h now. subst (λ z. IsTrue (int_le (cumul plan k +ℤ (arc_at line k).visit) z && int_le (z +ℤ (break_at line j).duration) (cumul plan (suc k))))
+      (start_other j h) now) j
 
   -- the plan with the earlier start is a schedule too
   pub moved_schedule : IsSchedule line (moved plan i e)
@@ -114,19 +127,25 @@ module _ (line : Line) (sound : IsSound line) (plan : Plan) (s : IsSchedule line
     slacks_carry_breaks = λ k lt. let before = s.slacks_carry_breaks k lt in let less = carried k lt in omega (arith, ints, before, less);
   }
     where
-      in_range : (j : ℕ) → j < length line.breaks → ((break_at line j).from ≤ℤ break_start (moved plan i e) j) × (break_start (moved plan i e) j ≤ℤ (break_at line j).to)
-      in_range = same_or_not (λ j. j < length line.breaks → ((break_at line j).from ≤ℤ break_start (moved plan i e) j) × (break_start (moved plan i e) j ≤ℤ (break_at line j).to))
+      in_range : (j : ℕ) → j < length line.breaks
+          → ((break_at line j).from ≤ℤ break_start (moved plan i e) j) × (break_start (moved plan i e) j ≤ℤ (break_at line j).to)
+      in_range = same_or_not
+          (λ j. j < length line.breaks → ((break_at line j).from ≤ℤ break_start (moved plan i e) j) × (break_start (moved plan i e) j ≤ℤ (break_at line j).to))
           (λ lt. let m = s.breaks_in_range i there in let n = start_there in (omega (arith, ints, n, from), omega (arith, ints, n, m, earlier)))
           (λ j h lt. let m = s.breaks_in_range j lt in let n = start_other j h in (omega (arith, ints, n, m), omega (arith, ints, n, m)))
 
       in_order : (j : ℕ) → suc j < length line.breaks → break_end line (moved plan i e) j ≤ℤ break_start (moved plan i e) (suc j)
       in_order j lt = elim (cases_lt (suc j) i) [
-        | inl l ↦ (let m = s.breaks_in_order j lt in let a = start_other j (omega (arith, l)) in let b = start_other (suc j) (omega (arith, l)) in omega (arith, ints, m, a, b))
+        | inl l ↦ (let m = s.breaks_in_order j lt in
+            let a = start_other j (omega (arith, l)) in
+            let b = start_other (suc j) (omega (arith, l)) in
+            omega (arith, ints, m, a, b))
         | inr l ↦ elim (cases_lt i (suc j)) [
           | inl k ↦ (
               let m = s.breaks_in_order j lt in
               let b = start_other (suc j) (omega (arith, k)) in
-              let a = same_or_not (λ j. break_start (moved plan i e) j ≤ℤ break_start plan j) (let n = start_there in omega (arith, ints, n, earlier)) (λ j h. let n = start_other j h in omega (arith, ints, n)) j in
+              let a = same_or_not (λ j. break_start (moved plan i e) j ≤ℤ break_start plan j)
+              (let n = start_there in omega (arith, ints, n, earlier)) (λ j h. let n = start_other j h in omega (arith, ints, n)) j in
               omega (arith, ints, m, a, b))
           | inr k ↦ (
               let same : suc j ≡ i = omega (arith, l, k) in
@@ -137,22 +156,35 @@ module _ (line : Line) (sound : IsSound line) (plan : Plan) (s : IsSchedule line
         ]
       ]
 
-      placed : EachIndex line.breaks (λ j. IsTrue (true && is_before line (moved plan i e) j) ⊎ IsTrue (true && is_after line (moved plan i e) j) ⊎ (k : ℕ) × (k < length line.arcs) × IsTrue (is_inside line (moved plan i e) j k))
-      placed = same_or_not (λ j. j < length line.breaks → IsTrue (true && is_before line (moved plan i e) j) ⊎ IsTrue (true && is_after line (moved plan i e) j) ⊎ (k : ℕ) × (k < length line.arcs) × IsTrue (is_inside line (moved plan i e) j k))
+      placed : EachIndex line.breaks (λ j. IsTrue (true && is_before line (moved plan i e) j)
+          ⊎ IsTrue (true && is_after line (moved plan i e) j) ⊎ (k : ℕ) × (k < length line.arcs) × IsTrue (is_inside line (moved plan i e) j k))
+      placed = same_or_not (λ j. j < length line.breaks → IsTrue (true && is_before line (moved plan i e) j)
+          ⊎ IsTrue (true && is_after line (moved plan i e) j) ⊎ (k : ℕ) × (k < length line.arcs) × IsTrue (is_inside line (moved plan i e) j k))
           (λ lt. now stands)
-          (λ j h lt. subst (λ z. IsTrue (int_le (z +ℤ (break_at line j).duration) (cumul plan 0)) ⊎ IsTrue (int_le (cumul plan (length line.arcs)) z) ⊎ (k : ℕ) × (k < length line.arcs) × IsTrue (int_le (cumul plan k +ℤ (arc_at line k).visit) z && int_le (z +ℤ (break_at line j).duration) (cumul plan (suc k)))) (sym (start_other j h)) (s.breaks_placed j lt))
+          (λ j h lt. subst (λ z. IsTrue (int_le (z +ℤ (break_at line j).duration) (cumul plan 0))
+          ⊎ IsTrue (int_le (cumul plan (length line.arcs)) z) ⊎ (k : ℕ) × (k < length line.arcs)
+          × IsTrue (int_le (cumul plan k +ℤ (arc_at line k).visit) z && int_le (z +ℤ (break_at line j).duration) (cumul plan (suc k))))
+          (sym (start_other j h)) (s.breaks_placed j lt))
         where
-          now : StandsAt line plan i e → IsTrue (true && is_before line (moved plan i e) i) ⊎ IsTrue (true && is_after line (moved plan i e) i) ⊎ (k : ℕ) × (k < length line.arcs) × IsTrue (is_inside line (moved plan i e) i k)
-          now (inl t) = inl (test_of_le (break_end line (moved plan i e) i) (cumul plan 0) (let m = le_of_test (break_end line plan i) (cumul plan 0) t in let n = start_there in omega (arith, ints, m, n, earlier)))
-          now (inr (inl (t, after))) = inr (inl (test_of_le (cumul plan (length line.arcs)) (break_start (moved plan i e) i) (let n = start_there in omega (arith, ints, n, after))))
+          now : StandsAt line plan i e → IsTrue (true && is_before line (moved plan i e) i) ⊎ IsTrue (true && is_after line (moved plan i e) i)
+              ⊎ (k : ℕ) × (k < length line.arcs) × IsTrue (is_inside line (moved plan i e) i k)
+          now (inl t) = inl (test_of_le (break_end line (moved plan i e) i) (cumul plan 0)
+              (let m = le_of_test (break_end line plan i) (cumul plan 0) t in let n = start_there in omega (arith, ints, m, n, earlier)))
+          now (inr (inl (t, after))) =
+              inr (inl (test_of_le (cumul plan (length line.arcs)) (break_start (moved plan i e) i) (let n = start_there in omega (arith, ints, n, after))))
           now (inr (inr (k, lt, t, begin))) = inr (inr (
             k,
             lt,
             and_both (int_le (cumul plan k +ℤ (arc_at line k).visit) (break_start (moved plan i e) i)) _
                 (test_of_le (cumul plan k +ℤ (arc_at line k).visit) (break_start (moved plan i e) i) (let n = start_there in omega (arith, ints, n, begin)))
-                (test_of_le (break_end line (moved plan i e) i) (cumul plan (suc k)) (let m = le_of_test (break_end line plan i) (cumul plan (suc k)) (and_right (int_le (cumul plan k +ℤ (arc_at line k).visit) (break_start plan i)) _ t) in let n = start_there in omega (arith, ints, m, n, earlier))),
+                (test_of_le (break_end line (moved plan i e) i) (cumul plan (suc k))
+                (let m = le_of_test (break_end line plan i) (cumul plan (suc k))
+                (and_right (int_le (cumul plan k +ℤ (arc_at line k).visit) (break_start plan i)) _ t) in
+                let n = start_there in omega (arith, ints, m, n, earlier))),
           ))
 
       carried : (k : ℕ) → k < length line.arcs → break_time line (moved plan i e) k ≤ℤ break_time line plan k
-      carried k lt = sum_le (λ j. cond (is_inside line (moved plan i e) j k) (break_at line j).duration (pos 0)) (λ j. cond (is_inside line plan j k) (break_at line j).duration (pos 0)) 0 (length line.breaks)
-          (λ j low high. cond_le (is_inside line (moved plan i e) j k) (is_inside line plan j k) (break_at line j).duration (let d = sound.durations j (omega (arith, high)) in omega (arith, ints, d)) (inside_now j k lt))
+      carried k lt = sum_le (λ j. cond (is_inside line (moved plan i e) j k) (break_at line j).duration (pos 0))
+          (λ j. cond (is_inside line plan j k) (break_at line j).duration (pos 0)) 0 (length line.breaks)
+          (λ j low high. cond_le (is_inside line (moved plan i e) j k) (is_inside line plan j k) (break_at line j).duration
+          (let d = sound.durations j (omega (arith, high)) in omega (arith, ints, d)) (inside_now j k lt))

@@ -1,5 +1,6 @@
 -- From where to where chosen schedules reach, one vehicle further.
-use Rattle.std.proofs.Common.{◌≡◌, ◌∙◌, ◌<◌, ◌+◌, ◌++◌, ℕ, zero, suc, List, [], ◌∷◌, true, false, cond, not, length, map, refl, ap, ap₂, sym, subst, arith, Option, Some, None}
+use Rattle.std.proofs.Common.{◌≡◌, ◌∙◌, ◌<◌, ◌+◌, ◌++◌, ℕ, zero, suc, List, [], ◌∷◌, true, false, cond, not, length, map, refl, ap, ap₂, sym, subst, arith}
+use Rattle.std.proofs.Common.{Option, Some, None}
 use Rattle.std.specs.Prelude.{ℤ, pos, negsuc, ◌-ℤ◌, ◌*ℤ◌, filter, IfSome, MatchOption}
 use Rattle.std.specs.Int.{int_max, int_min}
 use Rattle.std.proofs.lemmas.Int.{ints, int_max_is, int_min_is}
@@ -60,7 +61,8 @@ zero-times (negsuc n) = omega (arith, ints)
 pub times-none : (c x : ℤ) → c ≡ pos 0 → c *ℤ x ≡ pos 0
 times-none c x e = ap (λ z. z *ℤ x) e ∙ zero-times x
 
-pub extent-range : (before : Option Extent) (timing : Timing) (extent : Extent) (n : ℕ) → IfSome before IsExtentInRange → IsTimingOf n timing → IsWider before timing extent → IsExtentInRange extent
+pub extent-range : (before : Option Extent) (timing : Timing) (extent : Extent) (n : ℕ)
+    → IfSome before IsExtentInRange → IsTimingOf n timing → IsWider before timing extent → IsExtentInRange extent
 extent-range None timing extent n known range wider = record {
   start = subst (IsIn (pos 0) horizon) (sym wider.start) range.start_in_range;
   last = subst (IsIn (pos 0) horizon) (sym wider.last) range.last_in_range;
@@ -80,7 +82,8 @@ extent-range (Some e) timing extent n known range wider =
     }
 
 module _ (model : Model) (lists : List (List ℕ)) (d n : ℕ) where
-  pub extent-wider : (before : Option Extent) (timing : Timing) (extent : Extent) → MatchOption before (used_below lists n ≡ []) (IsExtent model lists d (used_below lists n)) → IsTiming model d n (route lists n) timing
+  pub extent-wider : (before : Option Extent) (timing : Timing) (extent : Extent)
+      → MatchOption before (used_below lists n ≡ []) (IsExtent model lists d (used_below lists n)) → IsTiming model d n (route lists n) timing
       → IsWider before timing extent → IsExtent model lists d (used_below lists n ++ n ∷ []) extent
   extent-wider None timing extent none is wider = record {
     some = (let a = length-append (used_below lists n) (n ∷ []) in omega (arith, a));
@@ -104,13 +107,17 @@ module _ (model : Model) (lists : List (List ℕ)) (d n : ℕ) where
 
 module _ (model : Model) (lists : List (List ℕ)) where
   -- the global span by the extent of the used vehicles
-  pub extent-span : (d : ℕ) → d < length model.dimensions → (extent : Option Extent) → MatchOption extent (used_vehicles lists ≡ []) (IsExtent model lists d (used_vehicles lists)) → length_of extent ≡ global_span (assigned model lists) d
-  extent-span d low None none = sym (ap (λ used. greatest (map (end_at (assigned model lists) d) used) -ℤ least (map (start_at (assigned model lists) d) used)) none)
+  pub extent-span : (d : ℕ) → d < length model.dimensions → (extent : Option Extent)
+      → MatchOption extent (used_vehicles lists ≡ []) (IsExtent model lists d (used_vehicles lists)) → length_of extent ≡ global_span (assigned model lists) d
+  extent-span d low None none =
+      sym (ap (λ used. greatest (map (end_at (assigned model lists) d) used) -ℤ least (map (start_at (assigned model lists) d) used)) none)
   extent-span d low (Some e) h = ap₂ (λ x y. x -ℤ y)
       (h.last ∙ sym (ap greatest (map-within (end_at (assigned model lists) d) (λ v. last_with model d v (route lists v)) (used_vehicles lists)
-      (used-all (λ v. end_at (assigned model lists) d v ≡ last_with model d v (route lists v)) lists (λ v known some. ap (λ plan. cumul plan (suc (length (route lists v)))) (plan-at model lists d v low known some))))))
+      (used-all (λ v. end_at (assigned model lists) d v ≡ last_with model d v (route lists v)) lists
+      (λ v known some. ap (λ plan. cumul plan (suc (length (route lists v)))) (plan-at model lists d v low known some))))))
       (h.start ∙ sym (ap least (map-within (start_at (assigned model lists) d) (λ v. start_with model d v (route lists v)) (used_vehicles lists)
-      (used-all (λ v. start_at (assigned model lists) d v ≡ start_with model d v (route lists v)) lists (λ v known some. ap (λ plan. cumul plan 0) (plan-at model lists d v low known some))))))
+      (used-all (λ v. start_at (assigned model lists) d v ≡ start_with model d v (route lists v))
+      lists (λ v known some. ap (λ plan. cumul plan 0) (plan-at model lists d v low known some))))))
 
   -- what the extent costs: nothing where the coefficient is 0
   pub global-cost : (d : ℕ) → d < length model.dimensions → (extent : Option Extent)
@@ -122,7 +129,8 @@ module _ (model : Model) (lists : List (List ℕ)) where
       paid pays = ap (λ z. (dimension_at model d).global_span_cost *ℤ z) (extent-span d low extent (h pays))
 
       by : (c : ℤ) → (dimension_at model d).global_span_cost ≡ c → (dimension_at model d).global_span_cost *ℤ length_of extent ≡ global_in model lists d
-      by (pos zero) e = times-none (dimension_at model d).global_span_cost (length_of extent) e ∙ sym (times-none (dimension_at model d).global_span_cost (global_span (assigned model lists) d) e)
+      by (pos zero) e = times-none (dimension_at model d).global_span_cost (length_of extent) e
+          ∙ sym (times-none (dimension_at model d).global_span_cost (global_span (assigned model lists) d) e)
       by (pos (suc n)) e = paid (λ none. differ (sym e ∙ none))
         where
           differ : pos (suc n) ≡ pos 0 → ⊥

@@ -1,5 +1,6 @@
 -- Where no stop has a soft bound, nothing is paid for soft bounds.
-use Rattle.std.proofs.Common.{◌≡◌, ◌∙◌, ◌<◌, ℕ, zero, suc, List, [], ◌∷◌, ◌++◌, Bool, true, false, cond, not, length, map, get_or, refl, ap, ap₂, sym, arith, Option, Some, None}
+use Rattle.std.proofs.Common.{◌≡◌, ◌∙◌, ◌<◌, ℕ, zero, suc, List, [], ◌∷◌, ◌++◌, Bool, true, false, cond, not, length, map, get_or, refl, ap, ap₂, sym, arith}
+use Rattle.std.proofs.Common.{Option, Some, None}
 use Rattle.std.specs.Prelude.{ℤ, pos, ◌&&◌, ◌||◌, ◌==◌, is_some, slice_index}
 use Rattle.std.specs.List.{list_all, list_any, zip}
 use Rattle.std.specs.Ordering.{int_eq}
@@ -24,7 +25,8 @@ no_cost (Some row) x h = by row.soft refl h
     by None e h = ap (λ o. soft_cost o x) e
     by (Some soft) e h = absurd (cc)
 
-no_costs : (rows : List (Option StopRow)) (xs : List ℤ) → list_all (λ row. not (has_soft row)) rows ≡ true → total_by (λ stop. row_cost stop.0 stop.1) (zip rows xs) ≡ pos 0
+no_costs : (rows : List (Option StopRow)) (xs : List ℤ) → list_all (λ row. not (has_soft row)) rows ≡ true
+    → total_by (λ stop. row_cost stop.0 stop.1) (zip rows xs) ≡ pos 0
 no_costs [] xs h = refl
 no_costs (row ∷ rows) [] h = refl
 no_costs (row ∷ rows) (x ∷ xs) h =
@@ -33,7 +35,8 @@ no_costs (row ∷ rows) (x ∷ xs) h =
     omega (arith, ints, a, b)
 
 -- the rows of the visits
-visits_free : (g : ℕ → Option StopRow) (last : Option StopRow) (list : List ℕ) → ((k : ℕ) → k < length list → has_soft (g (slice_index list k)) ≡ false) → has_soft last ≡ false
+visits_free : (g : ℕ → Option StopRow) (last : Option StopRow) (list : List ℕ)
+    → ((k : ℕ) → k < length list → has_soft (g (slice_index list k)) ≡ false) → has_soft last ≡ false
     → list_all (λ row. not (has_soft row)) (map g list ++ last ∷ []) ≡ true
 visits_free g last [] each h = ap (λ b. not b && true) h
 visits_free g last (x ∷ xs) each h = ap₂ (λ a b. not a && b) (each 0 (omega arith)) (visits_free g last xs (λ k low. each (suc k) (omega (arith, low))) h)
@@ -43,7 +46,8 @@ pub pays_nothing : (dimension : Dimension) (v : ℕ) (list : List ℕ) → numbe
     → ((k : ℕ) → k < length list → has_soft (row_of dimension.nodes (slice_index list k)) ≡ false) → PaysNothing dimension v list
 pays_nothing dimension v list span start last each = record {
   span = span;
-  soft = λ cumuls. no_costs (stop_rows dimension v list) cumuls (ap₂ (λ a b. not a && b) start (visits_free (row_of dimension.nodes) (row_of dimension.ends v) list each last));
+  soft = λ cumuls. no_costs (stop_rows dimension v list) cumuls
+      (ap₂ (λ a b. not a && b) start (visits_free (row_of dimension.nodes) (row_of dimension.ends v) list each last));
 }
 
 found_free : (b : Bool) (row : StopRow) (rest : Option StopRow) → is_some row.soft ≡ false → has_soft rest ≡ false → has_soft (cond b (Some row) rest) ≡ false
@@ -51,9 +55,11 @@ found_free true row rest here e = here
 found_free false row rest here e = e
 
 -- where no row has a soft bound, none that is found has
-pub row_free : (rows : List StopRow) → ((k : ℕ) (d : StopRow) → k < length rows → is_some (get_or rows k d).soft ≡ false) → (key : ℕ) → has_soft (row_of rows key) ≡ false
+pub row_free : (rows : List StopRow) → ((k : ℕ) (d : StopRow) → k < length rows → is_some (get_or rows k d).soft ≡ false)
+    → (key : ℕ) → has_soft (row_of rows key) ≡ false
 row_free [] free key = refl
-row_free (row ∷ rows) free key = found_free (row.key == key) row (row_of rows key) (free 0 row (omega arith)) (row_free rows (λ k d low. free (suc k) d (omega (arith, low))) key)
+row_free (row ∷ rows) free key =
+    found_free (row.key == key) row (row_of rows key) (free 0 row (omega arith)) (row_free rows (λ k d low. free (suc k) d (omega (arith, low))) key)
 
 -- a number that is not there is read as 0
 pub none_read : (xs : List ℤ) → ((k : ℕ) → k < length xs → number_at xs k ≡ pos 0) → (k : ℕ) → number_at xs k ≡ pos 0
@@ -89,7 +95,8 @@ pays_nothing_where dimension v list none =
     let visits = visits_soft dimension list in
     let ends = or-false_left (cost || start || last) visits none in
     let front = or-false_left (cost || start) last ends in
-    pays_nothing dimension v list (zero_where (number_at dimension.span_costs v) (or-false_left cost start front)) (or-false_right cost start front) (or-false_right (cost || start) last ends)
+    pays_nothing dimension v list (zero_where (number_at dimension.span_costs v) (or-false_left cost start front))
+    (or-false_right cost start front) (or-false_right (cost || start) last ends)
     (none_at (λ node. has_soft (row_of dimension.nodes node)) list (or-false_right (cost || start || last) visits none))
 
 -- no row has a soft bound
@@ -125,7 +132,8 @@ pub free_pays : (dimension : Dimension) → is_free dimension ≡ true → (v : 
 free_pays dimension free v list =
     let zeros = are_zero dimension.span_costs in
     let rows = rows_hard dimension (and_right zeros (is_hard dimension) free) in
-    let span = (Decides-int_eq (number_at dimension.span_costs v) (pos 0)).1 (none_read dimension.span_costs (zero_at dimension.span_costs (and_left zeros (is_hard dimension) free)) v) in
+    let span = (Decides-int_eq (number_at dimension.span_costs v) (pos 0)).1
+    (none_read dimension.span_costs (zero_at dimension.span_costs (and_left zeros (is_hard dimension) free)) v) in
     let visits = none_of (λ node. has_soft (row_of dimension.nodes node)) rows.nodes list in
     ap₂ (λ a b. a || b) (ap₂ (λ a b. a || b) (ap₂ (λ a b. not a || b) span (rows.starts v)) (rows.ends v)) visits
   where

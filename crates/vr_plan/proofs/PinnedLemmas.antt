@@ -11,14 +11,16 @@ use Rattle.vr_steps.specs.Lines.{IsSoundLine}
 use Rattle.vr_plan.specs.Ends.{IsPinnedOf}
 use Rattle.vr_plan.specs.Settled.{IsOnly}
 
-zip_set : (tests : List (ℤ → Bool)) (sets : List (List Run)) (k : ℕ) (test : ℤ → Bool) (only : List Run) → AllZip HasNumbers tests sets → HasNumbers test only → AllZip HasNumbers (set tests k test) (set sets k only)
+zip_set : (tests : List (ℤ → Bool)) (sets : List (List Run)) (k : ℕ) (test : ℤ → Bool) (only : List Run)
+    → AllZip HasNumbers tests sets → HasNumbers test only → AllZip HasNumbers (set tests k test) (set sets k only)
 zip_set [] [] k test only zip h = tt
 zip_set [] (s ∷ ss) k test only zip h = absurd zip
 zip_set (t ∷ ts) [] k test only zip h = absurd zip
 zip_set (t ∷ ts) (s ∷ ss) zero test only zip h = (h, zip.1)
 zip_set (t ∷ ts) (s ∷ ss) (suc k) test only zip h = (zip.0, zip_set ts ss k test only zip.1 h)
 
-zip_at : (tests : List (ℤ → Bool)) (sets : List (List Run)) (k : ℕ) → AllZip HasNumbers tests sets → k < length sets → HasNumbers (get_or tests k (λ _. false)) (get_or sets k [])
+zip_at : (tests : List (ℤ → Bool)) (sets : List (List Run)) (k : ℕ) → AllZip HasNumbers tests sets
+    → k < length sets → HasNumbers (get_or tests k (λ _. false)) (get_or sets k [])
 zip_at [] [] k zip low = absurd (omega (arith, low))
 zip_at [] (s ∷ ss) k zip low = absurd zip
 zip_at (t ∷ ts) [] k zip low = absurd zip
@@ -30,11 +32,13 @@ abbrev pub with_sets : Line → List (List Run) → Line
 with_sets line sets = record { allowed = sets; hops = line.hops; breaks = line.breaks }
 
 module _ (made : Line) (k : ℕ) (only : List Run) where
-  pub pinned_line : (x : ℤ) → k < length made.allowed → IsOnly (get_or made.allowed k []) x only → IsPinnedOf made k x (with_sets made (set made.allowed k only))
+  pub pinned_line : (x : ℤ) → k < length made.allowed → IsOnly (get_or made.allowed k []) x only
+      → IsPinnedOf made k x (with_sets made (set made.allowed k only))
   pinned_line x low is defined of =
       let at = zip_at defined.allowed made.allowed k of.allowed low in
       record {
-        allowed = zip_set defined.allowed made.allowed k (λ y. get_or defined.allowed k (λ _. false) y && is_same_number x y) only of.allowed (λ y. is y ∙ ap (λ b. b && is_same_number x y) (at y));
+        allowed = zip_set defined.allowed made.allowed k (λ y. get_or defined.allowed k (λ _. false) y && is_same_number x y)
+            only of.allowed (λ y. is y ∙ ap (λ b. b && is_same_number x y) (at y));
         hops = of.hops;
         breaks = of.breaks;
       }

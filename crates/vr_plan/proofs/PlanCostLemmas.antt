@@ -31,21 +31,31 @@ used-all P lists h = go 0 (length lists) (omega arith)
     go a (suc n) within = by (is_empty (route lists a)) refl (go (a + 1) n (omega (arith, within)))
       where
         by : (b : Bool) → is_empty (route lists a) ≡ b → All P (filter (λ v. not (is_empty (route lists v))) (range_with_len (a + 1) n))
-            → All P (cond (not (is_empty (route lists a))) (a ∷ filter (λ v. not (is_empty (route lists v))) (range_with_len (a + 1) n)) (filter (λ v. not (is_empty (route lists v))) (range_with_len (a + 1) n)))
-        by true e rest = subst (λ b. All P (cond (not b) (a ∷ filter (λ v. not (is_empty (route lists v))) (range_with_len (a + 1) n)) (filter (λ v. not (is_empty (route lists v))) (range_with_len (a + 1) n)))) (sym e) rest
-        by false e rest = subst (λ b. All P (cond (not b) (a ∷ filter (λ v. not (is_empty (route lists v))) (range_with_len (a + 1) n)) (filter (λ v. not (is_empty (route lists v))) (range_with_len (a + 1) n)))) (sym e)
+            → All P
+            (cond (not (is_empty (route lists a))) (a ∷ filter (λ v. not (is_empty (route lists v))) (range_with_len (a + 1) n))
+            (filter (λ v. not (is_empty (route lists v))) (range_with_len (a + 1) n)))
+        by true e rest = subst (λ b. All P
+            (cond (not b) (a ∷ filter (λ v. not (is_empty (route lists v))) (range_with_len (a + 1) n))
+            (filter (λ v. not (is_empty (route lists v))) (range_with_len (a + 1) n)))) (sym e) rest
+        by false e rest = subst (λ b. All P
+            (cond (not b) (a ∷ filter (λ v. not (is_empty (route lists v))) (range_with_len (a + 1) n))
+            (filter (λ v. not (is_empty (route lists v))) (range_with_len (a + 1) n)))) (sym e)
             (All-cons P a (filter (λ v. not (is_empty (route lists v))) (range_with_len (a + 1) n)) (h a (omega (arith, within)) e) rest)
 
 -- ---- the plans of an assignment
 
 module _ (model : Model) where
-  chosen-at : (d v : ℕ) (list : List ℕ) → d < length model.dimensions → is_empty list ≡ false → slice_index_or (chosen_plans model v list) d no_plan ≡ chosen_plan_of model d v list
+  chosen-at : (d v : ℕ) (list : List ℕ) → d < length model.dimensions → is_empty list ≡ false
+      → slice_index_or (chosen_plans model v list) d no_plan ≡ chosen_plan_of model d v list
   chosen-at d v [] low some = absurd (cc)
-  chosen-at d v (x ∷ xs) low some = get_or-map-range_with_len (λ d. unwrap_or (chosen (chosen_line model d v (x ∷ xs))) no_plan) 0 (length model.dimensions) d d no_plan low (omega arith)
+  chosen-at d v (x ∷ xs) low some =
+      get_or-map-range_with_len (λ d. unwrap_or (chosen (chosen_line model d v (x ∷ xs))) no_plan) 0 (length model.dimensions) d d no_plan low (omega arith)
 
   module _ (lists : List (List ℕ)) where
     -- the plan of a used vehicle
-    pub plan-at : (d v : ℕ) → d < length model.dimensions → v < length lists → is_empty (route lists v) ≡ false → plan_at (assigned model lists) d v ≡ chosen_plan_of model d v (route lists v)
+    pub plan-at : (d v : ℕ) → d < length model.dimensions → v < length lists → is_empty (route lists v) ≡ false
+        → plan_at (assigned model lists) d v ≡ chosen_plan_of model d v (route lists v)
     plan-at d v low known some =
-        ap (λ plans. slice_index_or plans d no_plan) (get_or-map-range_with_len (λ v. chosen_plans model v (route lists v)) 0 (length lists) v v [] known (omega arith))
+        ap (λ plans. slice_index_or plans d no_plan)
+        (get_or-map-range_with_len (λ v. chosen_plans model v (route lists v)) 0 (length lists) v v [] known (omega arith))
         ∙ chosen-at d v (route lists v) low some

@@ -32,7 +32,8 @@ pub chosen_none : (line : Line) → IsUnfeasible line → (defined : Defined) �
 chosen_none line none defined of = none_where_unfeasible (chosen defined) (λ is. none defined of ((chosen_where_feasible defined).0 is))
 
 -- the cumuls that were found are those of the chosen plan
-pub chosen_numbers : (line : Line) (goes : Bool) (cumuls : List ℤ) → Goes (HaveChosenCumuls line cumuls) goes → (goes ≡ false → IsUnfeasible line) → (defined : Defined) → IsLineOf defined line → then_some goes cumuls ≡ option_map cumuls_of (chosen defined)
+pub chosen_numbers : (line : Line) (goes : Bool) (cumuls : List ℤ) → Goes (HaveChosenCumuls line cumuls) goes → (goes ≡ false → IsUnfeasible line)
+    → (defined : Defined) → IsLineOf defined line → then_some goes cumuls ≡ option_map cumuls_of (chosen defined)
 chosen_numbers line false cumuls have none defined of = ap (option_map cumuls_of) (chosen_none line (none refl) defined of)
 chosen_numbers line true cumuls have none defined of =
     let plan = (have refl).chosen defined of in
@@ -48,14 +49,16 @@ no_numbers [] e = refl
 no_numbers (z ∷ zs) e = absurd (omega (arith, e))
 
 -- the plan of the chosen cumuls is the chosen one
-pub chosen_plan : (line : Line) → IsSoundLine line → (plan : Plan) → HaveChosenCumuls line plan.cumuls → AreSlacks line.hops plan.cumuls plan.slacks → HaveChosenStarts line plan.breaks → (defined : Defined) → IsLineOf defined line → Some (as_defined plan) ≡ chosen defined
+pub chosen_plan : (line : Line) → IsSoundLine line → (plan : Plan) → HaveChosenCumuls line plan.cumuls → AreSlacks line.hops plan.cumuls plan.slacks
+    → HaveChosenStarts line plan.breaks → (defined : Defined) → IsLineOf defined line → Some (as_defined plan) ≡ chosen defined
 chosen_plan line sound plan have slacks starts defined of =
     let s = lines_stand_for_theirs defined line of sound in
     let found = have.chosen defined of in
     let wanted = found.0 in
     let rules = found.1.schedule in
     let cumuls : wanted.cumuls ≡ plan.cumuls = found.2 in
-    let arcs : length wanted.slacks ≡ length plan.slacks = let a = rules.slack_of_each_arc in let b = s.arcs in let c = slacks.one_of_each in omega (arith, a, b, c) in
+    let arcs : length wanted.slacks ≡ length plan.slacks = let a = rules.slack_of_each_arc in
+    let b = s.arcs in let c = slacks.one_of_each in omega (arith, a, b, c) in
     let same_slacks : wanted.slacks ≡ plan.slacks = ext_get_or (pos 0) wanted.slacks plan.slacks arcs (λ k lt.
     let a = rules.slack_of_each_arc in
     let b = s.arcs in
@@ -74,7 +77,9 @@ chosen_plan line sound plan have slacks starts defined of =
 pub no_starts : (line : Line) → line.breaks ≡ [] → HaveChosenStarts line []
 no_starts line none defined of plan c = no_numbers plan.breaks (c.schedule.start_of_each_break ∙ ap length (sym of.breaks ∙ none))
 
-module _ (line narrow : Line) (sound : IsSoundLine line) (cumuls : List ℤ) (have : HaveChosenCumuls line cumuls) (only : AreOnly line.allowed cumuls narrow.allowed) (hops : narrow.hops ≡ line.hops) (breaks : narrow.breaks ≡ line.breaks) (narrow_sound : IsSoundLine narrow) where
+module _ (line narrow : Line) (sound : IsSoundLine line) (cumuls : List ℤ) (have : HaveChosenCumuls line cumuls)
+    (only : AreOnly line.allowed cumuls narrow.allowed) (hops : narrow.hops ≡ line.hops)
+    (breaks : narrow.breaks ≡ line.breaks) (narrow_sound : IsSoundLine narrow) where
   -- each schedule of the narrow line has the cumuls
   pub only_cumuls : HaveCumuls narrow cumuls
   only_cumuls theirs of q s =
@@ -87,16 +92,24 @@ module _ (line narrow : Line) (sound : IsSoundLine line) (cumuls : List ℤ) (ha
       let inside : k < length narrow.allowed = omega (arith, lt, number) in
       let here = and_right (within (pos 0) horizon (cumul q k)) _ (s.cumuls_allowed k (omega (arith, inside, n, stops, t.arcs))) in
       let set = (t.allowed k inside).exact (cumul q k) in
-      sym (eq_of_tests (number_at cumuls k) (cumul q k) (and_right (has (get_or line.allowed k []) (cumul q k)) _ (sym (only.each k inside (cumul q k)) ∙ (set ∙ here)))))
+      sym (eq_of_tests (number_at cumuls k) (cumul q k)
+      (and_right (has (get_or line.allowed k []) (cumul q k)) _ (sym (only.each k inside (cumul q k)) ∙ (set ∙ here)))))
 
   fixed_of : (defined : Defined) → IsLineOf defined line → IsLineOf (fixed defined cumuls) narrow
   fixed_of defined of = fixed_line defined line narrow cumuls of have.cumul_of_each_stop only hops breaks
 
   long_of : (defined : Defined) → IsLineOf defined line → length cumuls ≡ length defined.allowed
-  long_of defined of = let s = lines_stand_for_theirs defined line of sound in let a = have.cumul_of_each_stop in let b = s.sound.stops in let c = s.arcs in let d = sound.stops in omega (arith, a, b, c, d)
+  long_of defined of =
+      let s = lines_stand_for_theirs defined line of sound in
+      let a = have.cumul_of_each_stop in
+      let b = s.sound.stops in
+      let c = s.arcs in
+      let d = sound.stops in
+      omega (arith, a, b, c, d)
 
   -- what is chosen of the line is chosen of the narrower one
-  fixed_chosen : (defined : Defined) (of : IsLineOf defined line) (plan : Wanted) → IsChosen defined plan → plan.cumuls ≡ cumuls → IsChosen (fixed defined cumuls) plan
+  fixed_chosen : (defined : Defined) (of : IsLineOf defined line) (plan : Wanted)
+      → IsChosen defined plan → plan.cumuls ≡ cumuls → IsChosen (fixed defined cumuls) plan
   fixed_chosen defined of plan c e = record {
     schedule = to_fixed defined cumuls (long_of defined of) plan c.schedule e;
     least = λ other s. c.least other (of_fixed defined cumuls (long_of defined of) other s).0;

@@ -1,5 +1,6 @@
 -- The least start of a break, put in: what is chosen then is chosen of the line too.
-use Rattle.std.proofs.Common.{◌≡◌, ℕ, suc, ◌<◌, ◌≢◌, true, cond, ◌&&◌, List, [], ◌∷◌, ◌++◌, length, ℤ, pos, ◌+ℤ◌, ◌≤ℤ◌, ◌<ℤ◌, ◌⊎◌, inl, inr, sym, subst, ap, ap₂, ◌∙◌, arith}
+use Rattle.std.proofs.Common.{◌≡◌, ℕ, suc, ◌<◌, ◌≢◌, true, cond, ◌&&◌, List, [], ◌∷◌, ◌++◌, length, ℤ, pos, ◌+ℤ◌, ◌≤ℤ◌, ◌<ℤ◌, ◌⊎◌, inl, inr, sym, subst, ap}
+use Rattle.std.proofs.Common.{ap₂, ◌∙◌, arith}
 use Rattle.std.specs.Prelude.{IsTrue, int_le, int_lt}
 use Rattle.std.proofs.lemmas.Int.{ints}
 use Rattle.std.proofs.lemmas.Bool.{cases_lt}
@@ -7,7 +8,8 @@ use Rattle.std.proofs.lemmas.List.{length-set, get_or-set_same, get_or-set_other
 use Rattle.vr_model.specs.tables.Numbers.{below, total_by, is_lex_le}
 use Rattle.vr_model.specs.deciding.Testing.{and_both, or_right, test_of_le}
 use Rattle.vr_model.specs.schedules.Lines.{Line}
-use Rattle.vr_model.specs.schedules.Schedules.{Plan, Sides, both_sides, KeepsRules, IsSchedule, IsChosen, cumul, break_at, break_start, break_end, is_before, is_after, is_inside, break_time, arc_at, no_break}
+use Rattle.vr_model.specs.schedules.Schedules.{Plan, Sides, both_sides, KeepsRules, IsSchedule, IsChosen, cumul, break_at, break_start, break_end, is_before}
+use Rattle.vr_model.specs.schedules.Schedules.{is_after, is_inside, break_time, arc_at, no_break}
 use Rattle.vr_plan.specs.Narrow.{at_start, row_pinned}
 use Rattle.vr_model.proofs.tables.Totals.{sum_same}
 use Rattle.vr_model.proofs.schedules.Narrowing.{lex_less_at}
@@ -29,7 +31,8 @@ module _ (line : Line) (i : ℕ) (x : ℤ) (there : i < length line.breaks) wher
   ]
 
   pub same_duration : (j : ℕ) → (break_at (row_pinned line i x) j).duration ≡ (break_at line j).duration
-  same_duration = same_or_not (λ j. (break_at (row_pinned line i x) j).duration ≡ (break_at line j).duration) (ap (λ r. r.duration) row_there) (λ j h. ap (λ r. r.duration) (row_other j h))
+  same_duration = same_or_not (λ j. (break_at (row_pinned line i x) j).duration ≡ (break_at line j).duration)
+      (ap (λ r. r.duration) row_there) (λ j h. ap (λ r. r.duration) (row_other j h))
 
   module _ (plan : Plan) where
     same_end : (j : ℕ) → break_end (row_pinned line i x) plan j ≡ break_end line plan j
@@ -45,7 +48,8 @@ module _ (line : Line) (i : ℕ) (x : ℤ) (there : i < length line.breaks) wher
     same_time k =
         let theirs : ℕ → ℤ = λ j. cond (is_inside (row_pinned line i x) plan j k) (break_at (row_pinned line i x) j).duration (pos 0) in
         let ours : ℕ → ℤ = λ j. cond (is_inside line plan j k) (break_at line j).duration (pos 0) in
-        ap (λ n. total_by theirs (below n)) same_number ∙ sum_same theirs ours 0 (length line.breaks) (λ j low high. ap₂ (λ b d. cond b d (pos 0)) (same_inside j k) (same_duration j))
+        ap (λ n. total_by theirs (below n)) same_number
+        ∙ sum_same theirs ours 0 (length line.breaks) (λ j low high. ap₂ (λ b d. cond b d (pos 0)) (same_inside j k) (same_duration j))
 
     -- a schedule whose break i starts at x is one of the pinned line
     pub to_row_pinned : IsSchedule line plan → break_start plan i ≡ x → IsSchedule (row_pinned line i x) plan
@@ -57,24 +61,31 @@ module _ (line : Line) (i : ℕ) (x : ℤ) (there : i < length line.breaks) wher
       slacks_left = s.slacks_left;
       slacks_bounded = s.slacks_bounded;
       breaks_in_range = λ j lt. in_range j (let n = same_number in omega (arith, lt, n));
-      breaks_in_order = λ j lt. subst (λ n. n ≤ℤ break_start plan (suc j)) (sym (same_end j)) (s.breaks_in_order j (let n = same_number in omega (arith, lt, n)));
+      breaks_in_order =
+          λ j lt. subst (λ n. n ≤ℤ break_start plan (suc j)) (sym (same_end j)) (s.breaks_in_order j (let n = same_number in omega (arith, lt, n)));
       breaks_placed = λ j lt. placed j (s.breaks_placed j (let n = same_number in omega (arith, lt, n)));
       slacks_carry_breaks = λ k lt. subst (λ n. n ≤ℤ Rattle.vr_model.specs.schedules.Schedules.slack plan k) (sym (same_time k)) (s.slacks_carry_breaks k lt);
     }
       where
-        in_range : (j : ℕ) → j < length line.breaks → ((break_at (row_pinned line i x) j).from ≤ℤ break_start plan j) × (break_start plan j ≤ℤ (break_at (row_pinned line i x) j).to)
-        in_range = same_or_not (λ j. j < length line.breaks → ((break_at (row_pinned line i x) j).from ≤ℤ break_start plan j) × (break_start plan j ≤ℤ (break_at (row_pinned line i x) j).to))
+        in_range : (j : ℕ) → j < length line.breaks
+            → ((break_at (row_pinned line i x) j).from ≤ℤ break_start plan j) × (break_start plan j ≤ℤ (break_at (row_pinned line i x) j).to)
+        in_range = same_or_not (λ j. j < length line.breaks
+            → ((break_at (row_pinned line i x) j).from ≤ℤ break_start plan j) × (break_start plan j ≤ℤ (break_at (row_pinned line i x) j).to))
             (λ lt. let from = ap (λ r. r.from) row_there in let to = ap (λ r. r.to) row_there in (omega (arith, ints, from, e), omega (arith, ints, to, e)))
-            (λ j h lt. let m = s.breaks_in_range j lt in let from = ap (λ r. r.from) (row_other j h) in let to = ap (λ r. r.to) (row_other j h) in (omega (arith, ints, from, m), omega (arith, ints, to, m)))
+            (λ j h lt. let m = s.breaks_in_range j lt in let from = ap (λ r. r.from) (row_other j h) in
+            let to = ap (λ r. r.to) (row_other j h) in (omega (arith, ints, from, m), omega (arith, ints, to, m)))
 
-        placed : (j : ℕ) → IsTrue (true && is_before line plan j) ⊎ IsTrue (true && is_after line plan j) ⊎ (k : ℕ) × (k < length line.arcs) × IsTrue (is_inside line plan j k)
-            → IsTrue (true && is_before (row_pinned line i x) plan j) ⊎ IsTrue (true && is_after (row_pinned line i x) plan j) ⊎ (k : ℕ) × (k < length line.arcs) × IsTrue (is_inside (row_pinned line i x) plan j k)
+        placed : (j : ℕ) → IsTrue (true && is_before line plan j) ⊎ IsTrue (true && is_after line plan j)
+            ⊎ (k : ℕ) × (k < length line.arcs) × IsTrue (is_inside line plan j k)
+            → IsTrue (true && is_before (row_pinned line i x) plan j) ⊎ IsTrue (true && is_after (row_pinned line i x) plan j)
+            ⊎ (k : ℕ) × (k < length line.arcs) × IsTrue (is_inside (row_pinned line i x) plan j k)
         placed j (inl t) = inl (same_before j ∙ t)
         placed j (inr (inl t)) = inr (inl t)
         placed j (inr (inr m)) = inr (inr (m.0, m.1, same_inside j m.0 ∙ m.2))
 
     -- and the other way round, where x is in the range of the break
-    pub of_row_pinned : (break_at line i).from ≤ℤ x → x ≤ℤ (break_at line i).to → IsSchedule (row_pinned line i x) plan → IsSchedule line plan × (break_start plan i ≡ x)
+    pub of_row_pinned : (break_at line i).from ≤ℤ x → x ≤ℤ (break_at line i).to
+        → IsSchedule (row_pinned line i x) plan → IsSchedule line plan × (break_start plan i ≡ x)
     of_row_pinned low high s = (
       record {
         cumul_of_each_stop = s.cumul_of_each_stop;
@@ -92,15 +103,22 @@ module _ (line : Line) (i : ℕ) (x : ℤ) (there : i < length line.breaks) wher
     )
       where
         here : break_start plan i ≡ x
-        here = let m = s.breaks_in_range i (let n = same_number in omega (arith, there, n)) in let from = ap (λ r. r.from) row_there in let to = ap (λ r. r.to) row_there in omega (arith, ints, from, to, m)
+        here =
+            let m = s.breaks_in_range i (let n = same_number in omega (arith, there, n)) in
+            let from = ap (λ r. r.from) row_there in
+            let to = ap (λ r. r.to) row_there in
+            omega (arith, ints, from, to, m)
 
         in_range : (j : ℕ) → j < length line.breaks → ((break_at line j).from ≤ℤ break_start plan j) × (break_start plan j ≤ℤ (break_at line j).to)
         in_range = same_or_not (λ j. j < length line.breaks → ((break_at line j).from ≤ℤ break_start plan j) × (break_start plan j ≤ℤ (break_at line j).to))
             (λ lt. (omega (arith, ints, here, low), omega (arith, ints, here, high)))
-            (λ j h lt. let m = s.breaks_in_range j (let n = same_number in omega (arith, lt, n)) in let from = ap (λ r. r.from) (row_other j h) in let to = ap (λ r. r.to) (row_other j h) in (omega (arith, ints, from, m), omega (arith, ints, to, m)))
+            (λ j h lt. let m = s.breaks_in_range j (let n = same_number in omega (arith, lt, n)) in let from = ap (λ r. r.from) (row_other j h) in
+            let to = ap (λ r. r.to) (row_other j h) in (omega (arith, ints, from, m), omega (arith, ints, to, m)))
 
-        placed : (j : ℕ) → IsTrue (true && is_before (row_pinned line i x) plan j) ⊎ IsTrue (true && is_after (row_pinned line i x) plan j) ⊎ (k : ℕ) × (k < length line.arcs) × IsTrue (is_inside (row_pinned line i x) plan j k)
-            → IsTrue (true && is_before line plan j) ⊎ IsTrue (true && is_after line plan j) ⊎ (k : ℕ) × (k < length line.arcs) × IsTrue (is_inside line plan j k)
+        placed : (j : ℕ) → IsTrue (true && is_before (row_pinned line i x) plan j) ⊎ IsTrue (true && is_after (row_pinned line i x) plan j)
+            ⊎ (k : ℕ) × (k < length line.arcs) × IsTrue (is_inside (row_pinned line i x) plan j k)
+            → IsTrue (true && is_before line plan j) ⊎ IsTrue (true && is_after line plan j)
+            ⊎ (k : ℕ) × (k < length line.arcs) × IsTrue (is_inside line plan j k)
         placed j (inl t) = inl (sym (same_before j) ∙ t)
         placed j (inr (inl t)) = inr (inl t)
         placed j (inr (inr m)) = inr (inr (m.0, m.1, sym (same_inside j m.0) ∙ m.2))

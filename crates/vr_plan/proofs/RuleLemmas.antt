@@ -44,7 +44,8 @@ module _ (made : Line) (sound : IsSoundLine made) where
     pub never_stuck : IsUnfeasible ending → IsUnfeasible made
     never_stuck none defined of feasible =
         let found = (end defined of).reached in
-        none (pinned defined (length defined.arcs) e) (ending_of defined of) (found.0, to_pinned defined (length defined.arcs) e (there defined of) found.0 found.1 found.2)
+        none (pinned defined (length defined.arcs) e) (ending_of defined of)
+        (found.0, to_pinned defined (length defined.arcs) e (there defined of) found.0 found.1 found.2)
 
     module _ (s : ℤ) (start : IsLatestOf ending s) (narrow : Line) (narrow_is : IsPinnedOf ending 0 s narrow) where
       latest : (defined : Defined) (of : IsLineOf defined made) → IsLatestStart defined e s

@@ -18,7 +18,8 @@ number_last [] x (suc i) e = absurd (omega (arith, e))
 number_last (c ∷ cs) x zero e = absurd (omega (arith, e))
 number_last (c ∷ cs) x (suc i) e = number_last cs x i (omega (arith, e))
 
-pub slacks_more : (hops : List Hop) (cumuls slacks : List ℤ) (k : ℕ) (x : ℤ) → length slacks ≡ k → ((j : ℕ) → j < length slacks → number_at slacks j ≡ slack_of hops cumuls j) → x ≡ slack_of hops cumuls k
+pub slacks_more : (hops : List Hop) (cumuls slacks : List ℤ) (k : ℕ) (x : ℤ) → length slacks ≡ k
+    → ((j : ℕ) → j < length slacks → number_at slacks j ≡ slack_of hops cumuls j) → x ≡ slack_of hops cumuls k
     → (j : ℕ) → j < length (slacks ++ x ∷ []) → number_at (slacks ++ x ∷ []) j ≡ slack_of hops cumuls j
 slacks_more hops cumuls slacks k x long before is j lt =
     let n = length-append slacks (x ∷ []) in

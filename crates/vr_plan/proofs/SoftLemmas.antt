@@ -23,7 +23,8 @@ pub soft-step : (g : ℕ → Option StopRow) (last : Option StopRow) (list : Lis
     → from_stop g last list cumuls k ≡ row_cost (g (get_or list k 0)) (number_at cumuls (k + 1)) +ℤ from_stop g last list cumuls (k + 1)
 soft-step g last list cumuls k low within =
     ap (λ l. total_by (λ stop. row_cost stop.0 stop.1) (zip (map g l ++ last ∷ []) (drop (k + 1) cumuls))) (drop_more list k 0 low)
-    ∙ ap (λ l. total_by (λ stop. row_cost stop.0 stop.1) (zip (g (get_or list k 0) ∷ (map g (drop (k + 1) list) ++ last ∷ [])) l)) (drop_more cumuls (k + 1) (pos 0) within)
+    ∙ ap (λ l. total_by (λ stop. row_cost stop.0 stop.1) (zip (g (get_or list k 0) ∷ (map g (drop (k + 1) list) ++ last ∷ [])) l))
+    (drop_more cumuls (k + 1) (pos 0) within)
 
 pub soft-end : (g : ℕ → Option StopRow) (last : Option StopRow) (list : List ℕ) (cumuls : List ℤ) (k : ℕ) → length list ≤ k → k + 1 < length cumuls
     → from_stop g last list cumuls k ≡ row_cost last (number_at cumuls (k + 1)) +ℤ pos 0
@@ -46,11 +47,13 @@ cumuls-seen None found e = sym (ap (λ o. unwrap_or o []) e)
 cumuls-seen (Some plan) found e = sym (ap (λ o. unwrap_or o []) e)
 
 -- those that were chosen under the rule of the vehicle are those of its plan
-pub plan-cumuls : (model : Model) (d v : ℕ) (list : List ℕ) (rule : ScheduleRule) (cumuls : List ℤ) → (vehicle_at model v).schedule ≡ rule → Some cumuls ≡ option_map cumuls_of (chosen_under rule (line model d v list)) → (chosen_plan_of model d v list).cumuls ≡ cumuls
+pub plan-cumuls : (model : Model) (d v : ℕ) (list : List ℕ) (rule : ScheduleRule) (cumuls : List ℤ) → (vehicle_at model v).schedule ≡ rule
+    → Some cumuls ≡ option_map cumuls_of (chosen_under rule (line model d v list)) → (chosen_plan_of model d v list).cumuls ≡ cumuls
 plan-cumuls model d v list rule cumuls is found =
     ap (λ r. (unwrap_or (chosen_under r (line model d v list)) no_plan).cumuls) is ∙ cumuls-seen (chosen_under rule (line model d v list)) (Some cumuls) found
 
 -- where none were chosen, its plan has none
-pub no-cumuls : (model : Model) (d v : ℕ) (list : List ℕ) (rule : ScheduleRule) → (vehicle_at model v).schedule ≡ rule → None ≡ option_map cumuls_of (chosen_under rule (line model d v list)) → (chosen_plan_of model d v list).cumuls ≡ []
+pub no-cumuls : (model : Model) (d v : ℕ) (list : List ℕ) (rule : ScheduleRule) → (vehicle_at model v).schedule ≡ rule
+    → None ≡ option_map cumuls_of (chosen_under rule (line model d v list)) → (chosen_plan_of model d v list).cumuls ≡ []
 no-cumuls model d v list rule is found =
     ap (λ r. (unwrap_or (chosen_under r (line model d v list)) no_plan).cumuls) is ∙ cumuls-seen (chosen_under rule (line model d v list)) None found

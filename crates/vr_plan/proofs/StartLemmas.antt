@@ -32,10 +32,13 @@ same_row : (r q : BreakRow) → r.from ≡ q.from → r.to ≡ q.to → r.durati
 same_row r q a b c = λ i. record { from = a i; to = b i; duration = c i }
 
 -- the rows after a break was put in
-pub put_is : (rows new : List BreakRow) (i : ℕ) (first : ℤ) (row : BreakRow) → new ≡ set rows i row → row.from ≡ first → row.to ≡ first → row.duration ≡ (get_or rows i no_break).duration → new ≡ set rows i (at_start (get_or rows i no_break) first)
+pub put_is : (rows new : List BreakRow) (i : ℕ) (first : ℤ) (row : BreakRow) → new ≡ set rows i row → row.from ≡ first
+    → row.to ≡ first → row.duration ≡ (get_or rows i no_break).duration → new ≡ set rows i (at_start (get_or rows i no_break) first)
 put_is rows new i first row is from to duration = is ∙ ap (set rows i) (same_row row (at_start (get_or rows i no_break) first) from to duration)
 
-pub put_sound : (line : Line) (i : ℕ) (first : ℤ) (rows : List BreakRow) → IsSoundLine line → i < length line.breaks → (get_or line.breaks i no_break).from ≤ℤ first → first ≤ℤ (get_or line.breaks i no_break).to → rows ≡ set line.breaks i (at_start (get_or line.breaks i no_break) first) → IsSoundLine (with_breaks line rows)
+pub put_sound : (line : Line) (i : ℕ) (first : ℤ) (rows : List BreakRow) → IsSoundLine line → i < length line.breaks
+    → (get_or line.breaks i no_break).from ≤ℤ first → first ≤ℤ (get_or line.breaks i no_break).to
+    → rows ≡ set line.breaks i (at_start (get_or line.breaks i no_break) first) → IsSoundLine (with_breaks line rows)
 put_sound line i first rows sound lt low high is =
     let n = ap length is ∙ length-set line.breaks i (at_start (get_or line.breaks i no_break) first) in
     let few = sound.few_breaks in
@@ -46,11 +49,13 @@ put_sound line i first rows sound lt low high is =
       each_hop = sound.each_hop;
       one_slack = sound.one_slack;
       few_breaks = omega (arith, n, few);
-      each_break = subst (All IsBreak) (sym is) (All-set IsBreak line.breaks i _ (start_is_break (get_or line.breaks i no_break) first (sound.each_break i no_break lt) low high) sound.each_break);
+      each_break = subst (All IsBreak) (sym is)
+          (All-set IsBreak line.breaks i _ (start_is_break (get_or line.breaks i no_break) first (sound.each_break i no_break lt) low high) sound.each_break);
       forward = λ some. sound.forward (omega (arith, n, some));
     }
 
-pub put_line : (defined : Defined) (line : Line) (i : ℕ) (first : ℤ) (rows : List BreakRow) → IsLineOf defined line → rows ≡ set line.breaks i (at_start (get_or line.breaks i no_break) first) → IsLineOf (row_pinned defined i first) (with_breaks line rows)
+pub put_line : (defined : Defined) (line : Line) (i : ℕ) (first : ℤ) (rows : List BreakRow) → IsLineOf defined line
+    → rows ≡ set line.breaks i (at_start (get_or line.breaks i no_break) first) → IsLineOf (row_pinned defined i first) (with_breaks line rows)
 put_line defined line i first rows of is = record {
   allowed = of.allowed;
   hops = of.hops;

@@ -1,5 +1,6 @@
 -- Break starts put in one after another.
-use Rattle.std.proofs.Common.{◌≡◌, ℕ, zero, suc, ◌+◌, ◌<◌, ◌^◌, true, false, List, [], ◌∷◌, ◌++◌, length, get_or, Option, Some, None, ℤ, pos, ◌+ℤ◌, ◌≤ℤ◌, inl, inr, refl, sym, subst, ap, ◌∙◌, arith}
+use Rattle.std.proofs.Common.{◌≡◌, ℕ, zero, suc, ◌+◌, ◌<◌, ◌^◌, true, false, List, [], ◌∷◌, ◌++◌, length, get_or, Option, Some, None, ℤ, pos, ◌+ℤ◌, ◌≤ℤ◌, inl}
+use Rattle.std.proofs.Common.{inr, refl, sym, subst, ap, ◌∙◌, arith}
 use Rattle.std.specs.Prelude.{is_some, IfSome}
 use Rattle.std.proofs.lemmas.Int.{ints, clamps}
 use Rattle.std.proofs.lemmas.Bool.{cases_lt}
@@ -65,7 +66,9 @@ none_started line cumuls sound have = record {
       settled = have defined of;
       started = λ q s j lt. absurd (omega (arith, lt));
       is_ready = λ some. record {
-        in_time = λ q s. let range = s.breaks_in_range 0 some in let row = sound.each_break 0 no_break (subst (λ rows. 0 < length rows) (sym of.breaks) some) in let same = ap (λ rows. (get_or rows 0 no_break).from) of.breaks in omega (arith, ints, range.0, row.from_in_range, same);
+        in_time = λ q s. let range = s.breaks_in_range 0 some in
+            let row = sound.each_break 0 no_break (subst (λ rows. 0 < length rows) (sym of.breaks) some) in
+            let same = ap (λ rows. (get_or rows 0 no_break).from) of.breaks in omega (arith, ints, range.0, row.from_in_range, same);
         over = λ q s j e. absurd (omega (arith, e));
       };
     },
@@ -81,7 +84,8 @@ start_last [] x (suc j) e = absurd (omega (arith, e))
 start_last (z ∷ zs) x zero e = absurd (omega (arith, e))
 start_last (z ∷ zs) x (suc j) e = start_last zs x j (omega (arith, e))
 
-module _ (begun line : Line) (cumuls : List ℤ) (i : ℕ) (starts : List ℤ) (ready : ℤ) (m : AreStarted begun line cumuls i starts ready) (there : i < length line.breaks) (stops : length cumuls ≡ suc (length line.hops)) where
+module _ (begun line : Line) (cumuls : List ℤ) (i : ℕ) (starts : List ℤ) (ready : ℤ) (m : AreStarted begun line cumuls i starts ready)
+    (there : i < length line.breaks) (stops : length cumuls ≡ suc (length line.hops)) where
   row : BreakRow
   row = get_or line.breaks i no_break
 
@@ -111,15 +115,19 @@ module _ (begun line : Line) (cumuls : List ℤ) (i : ℕ) (starts : List ℤ) (
     transits k lt = ap (λ h. h.transit) (s.hops k no_hop lt)
 
     as_theirs : (best : Option ℤ) → IsLeastStart line cumuls i ready best
-        → IsLeastTried narrow i (break_at narrow i).to (first_at line.hops cumuls (break_at narrow i) ready) (stands_at line.hops cumuls (break_at narrow i) ready) (suc (suc (length line.hops))) best
+        → IsLeastTried narrow i (break_at narrow i).to (first_at line.hops cumuls (break_at narrow i) ready)
+        (stands_at line.hops cumuls (break_at narrow i) ready) (suc (suc (length line.hops))) best
     as_theirs best tried =
-        subst (λ n. IsLeastTried narrow i (break_at narrow i).to (first_at line.hops cumuls (break_at narrow i) ready) (stands_at line.hops cumuls (break_at narrow i) ready) n best) (ap suc stops)
-        (subst (λ r. IsLeastTried narrow i r.to (first_at line.hops cumuls r ready) (stands_at line.hops cumuls r ready) (suc (length cumuls)) best) row_is (tried narrow p.of))
+        subst (λ n. IsLeastTried narrow i (break_at narrow i).to (first_at line.hops cumuls (break_at narrow i) ready)
+        (stands_at line.hops cumuls (break_at narrow i) ready) n best) (ap suc stops)
+        (subst (λ r. IsLeastTried narrow i r.to (first_at line.hops cumuls r ready) (stands_at line.hops cumuls r ready) (suc (length cumuls)) best)
+        row_is (tried narrow p.of))
 
   -- where no start can be had
   pub stopped : IsLeastStart line cumuls i ready None → IsUnfeasible begun
   stopped tried defined of feasible =
-      none_of_tried (narrow defined of) (s defined of).sound line.hops (sym (s defined of).arcs) (visits defined of) (transits defined of) cumuls (p defined of).settled i (there_too defined of) (low defined of) ready ((p defined of).is_ready (there_too defined of))
+      none_of_tried (narrow defined of) (s defined of).sound line.hops (sym (s defined of).arcs) (visits defined of) (transits defined of)
+      cumuls (p defined of).settled i (there_too defined of) (low defined of) ready ((p defined of).is_ready (there_too defined of))
       (as_theirs defined of None tried) ((p defined of).feasible feasible)
 
   -- one break more is settled
@@ -132,7 +140,10 @@ module _ (begun line : Line) (cumuls : List ℤ) (i : ℕ) (starts : List ℤ) (
         sound = put_sound line i x _ m.sound there start.from start.to refl;
         hops = m.hops;
         number = length-set line.breaks i _ ∙ m.number;
-        ready_in_range = record { at_least = omega (arith, ints, start.from, valid.from_in_range, valid.duration_in_range); at_most = omega (arith, ints, start.to, valid.to_in_range, valid.duration_in_range) };
+        ready_in_range = record {
+          at_least = omega (arith, ints, start.from, valid.from_in_range, valid.duration_in_range);
+          at_most = omega (arith, ints, start.to, valid.to_in_range, valid.duration_in_range);
+        };
         pinned = λ defined of.
             let q_line = narrow defined of in
             let mine = p defined of in
@@ -149,7 +160,8 @@ module _ (begun line : Line) (cumuls : List ℤ) (i : ℕ) (starts : List ℤ) (
                 chosen = λ plan c. mine.chosen plan (least_start_may_be_pinned q_line i x lt from to
                     (λ a b sa sb. mine.settled a sa ∙ sym (mine.settled b sb))
                     (λ a b sa sb j less. mine.started a sa j less ∙ sym (mine.started b sb j less))
-                    (least_of_tried q_line (s defined of).sound line.hops (sym (s defined of).arcs) (visits defined of) (transits defined of) cumuls mine.settled i lt (low defined of) ready (mine.is_ready lt) x least) plan c);
+                    (least_of_tried q_line (s defined of).sound line.hops (sym (s defined of).arcs) (visits defined of)
+                    (transits defined of) cumuls mine.settled i lt (low defined of) ready (mine.is_ready lt) x least) plan c);
                 settled = λ a sa. mine.settled a (of_row_pinned q_line i x lt a from to sa).0;
                 started = λ a sa j less.
                     let both = of_row_pinned q_line i x lt a from to sa in
@@ -171,7 +183,8 @@ module _ (begun line : Line) (cumuls : List ℤ) (i : ℕ) (starts : List ℤ) (
                       let at : i ≡ j = omega (arith, e) in
                       let long = same_duration q_line i x lt i in
                       let theirs = ap (λ r. r.duration) same in
-                      subst (λ k. break_end (row_pinned q_line i x) a k ≤ℤ (x +ℤ (get_or line.breaks i no_break).duration)) at (omega (arith, ints, both.1, long, theirs));
+                      subst (λ k. break_end (row_pinned q_line i x) a k ≤ℤ (x +ℤ (get_or line.breaks i no_break).duration))
+                      at (omega (arith, ints, both.1, long, theirs));
                 };
               },
             );
@@ -182,16 +195,22 @@ some_of None is = absurd (let f : false ≡ true → ⊥ = λ e. cc in f is)
 some_of (Some x) is = (x, refl)
 
 -- where all are settled
-pub all_started : (begun line : Line) (cumuls : List ℤ) (i : ℕ) (starts : List ℤ) (ready : ℤ) → AreStarted begun line cumuls i starts ready → i ≡ length begun.breaks → HaveStarts begun starts
+pub all_started : (begun line : Line) (cumuls : List ℤ) (i : ℕ) (starts : List ℤ) (ready : ℤ)
+    → AreStarted begun line cumuls i starts ready → i ≡ length begun.breaks → HaveStarts begun starts
 all_started begun line cumuls i starts ready m all defined of has =
     let narrow = (m.pinned defined of).0 in
     let p = (m.pinned defined of).1 in
     let found = some_of (chosen narrow) ((chosen_where_feasible narrow).1 (p.feasible has)) in
     let plan = found.0 in
     let is = (chosen_is_least narrow plan).0 found.1 in
-    let long : length plan.breaks ≡ length starts = let a = is.schedule.start_of_each_break in let b = ap length p.of.breaks in let c = m.number in let d = m.start_of_each in omega (arith, a, b, c, d, all) in
-    (plan, p.chosen plan is, ext_get_or (pos 0) plan.breaks starts long (λ j lt. p.started plan is.schedule j (let d = m.start_of_each in omega (arith, lt, long, d))))
+    let long : length plan.breaks ≡ length starts = let a = is.schedule.start_of_each_break in
+    let b = ap length p.of.breaks in let c = m.number in let d = m.start_of_each in omega (arith, a, b, c, d, all) in (
+      plan,
+      p.chosen plan is,
+      ext_get_or (pos 0) plan.breaks starts long (λ j lt. p.started plan is.schedule j (let d = m.start_of_each in omega (arith, lt, long, d))),
+    )
 
 -- what was tried, named otherwise
-pub retry : (line : Line) (i : ℕ) (cumuls : List ℤ) (r r' : ℤ) (best best' : Option ℤ) → IsLeastStart line cumuls i r best → r ≡ r' → best ≡ best' → IsLeastStart line cumuls i r' best'
+pub retry : (line : Line) (i : ℕ) (cumuls : List ℤ) (r r' : ℤ) (best best' : Option ℤ)
+    → IsLeastStart line cumuls i r best → r ≡ r' → best ≡ best' → IsLeastStart line cumuls i r' best'
 retry line i cumuls r r' best best' tried a b = subst (IsLeastStart line cumuls i r') b (subst (λ q. IsLeastStart line cumuls i q best) a tried)

@@ -39,13 +39,15 @@ filter-below_more p q n =
 chosen-at : (model : Model) (d v : ℕ) (list : List ℕ) → d < length model.dimensions → is_empty list ≡ false
     → slice_index_or (chosen_plans model v list) d no_plan ≡ unwrap_or (chosen (chosen_line model d v list)) no_plan
 chosen-at model d v [] low some = absurd (cc)
-chosen-at model d v (x ∷ xs) low some = get_or-map-range_with_len (λ d. unwrap_or (chosen (chosen_line model d v (x ∷ xs))) no_plan) 0 (length model.dimensions) d d no_plan low (omega arith)
+chosen-at model d v (x ∷ xs) low some =
+    get_or-map-range_with_len (λ d. unwrap_or (chosen (chosen_line model d v (x ∷ xs))) no_plan) 0 (length model.dimensions) d d no_plan low (omega arith)
 
 -- the plan of a used vehicle
 pub plan-at : (model : Model) (lists : List (List ℕ)) (d v : ℕ) → d < length model.dimensions → v < length lists → is_empty (route lists v) ≡ false
     → plan_at (assigned model lists) d v ≡ unwrap_or (chosen (chosen_line model d v (route lists v))) no_plan
 plan-at model lists d v low known some =
-    ap (λ plans. slice_index_or plans d no_plan) (get_or-map-range_with_len (λ v. chosen_plans model v (route lists v)) 0 (length lists) v v [] known (omega arith))
+    ap (λ plans. slice_index_or plans d no_plan)
+    (get_or-map-range_with_len (λ v. chosen_plans model v (route lists v)) 0 (length lists) v v [] known (omega arith))
     ∙ chosen-at model d v (route lists v) low some
 
 -- ---- no float stands in a tree, and it is not deep
@@ -99,7 +101,9 @@ depth_plans model assignment v = by (is_empty (route assignment.lists v))
   where
     by : (b : Bool) → depth (cond b (array no_items) (used_plans_tree model assignment v)) ≤ 3
     by true = omega arith
-    by false = let h = depth_items (dimension_tree model assignment v) 2 (λ d. depth_plan _ (plan_at assignment d v)) (below (length model.dimensions)) in omega (arith, h)
+    by false =
+        let h = depth_items (dimension_tree model assignment v) 2 (λ d. depth_plan _ (plan_at assignment d v)) (below (length model.dimensions)) in
+        omega (arith, h)
 
 no_float_route : (model : Model) (assignment : Assignment) (v : ℕ) → has_float (route_tree model assignment v) ≡ false
 unfolding route_tree
@@ -128,7 +132,8 @@ pub record IsPrintable (d : Data) : Type 0 where
   pub whole : has_float d ≡ false
   pub nested : depth d ≤ max_depth
 
-pub assignment-printable : (model : Model) (assignment : Assignment) (first_cost : ℤ) (report : Report) → IsPrintable (assignment_tree model assignment first_cost report)
+pub assignment-printable : (model : Model) (assignment : Assignment) (first_cost : ℤ) (report : Report)
+    → IsPrintable (assignment_tree model assignment first_cost report)
 unfolding assignment_tree tree_of
 assignment-printable model assignment first_cost report =
     let routes = no_float_items (route_tree model assignment) (no_float_route model assignment) (vehicles assignment.lists) in

@@ -1,5 +1,6 @@
 -- What the shape of a route says of its lengths.
-use Rattle.std.proofs.Common.{◌≡◌, ℕ, ◌-◌, ◌<◌, ◌≤◌, Bool, true, false, cond, List, [], length, drop, Some, None, Result, Ok, Err, refl, sym, ap, ◌∙◌, inl, inr, arith}
+use Rattle.std.proofs.Common.{◌≡◌, ℕ, ◌-◌, ◌<◌, ◌≤◌, Bool, true, false, cond, List, [], length, drop, Some, None, Result, Ok, Err, refl, sym, ap, ◌∙◌, inl, inr}
+use Rattle.std.proofs.Common.{arith}
 use Rattle.std.specs.Prelude.{IsTrue, ◌==◌, nat_le, pos}
 use Rattle.std.specs.Str.{bytes_eq}
 use Rattle.std.proofs.lemmas.Bool.{cases_lt, eqb-true}
@@ -38,7 +39,8 @@ at_least n m h = grind (arith, nat_tests)
 
 module _ (model : Model) (v : ℕ) (route : PrintedRoute) (shaped : IsTrue (is_route_shaped model v route)) where
   used_shaped : 0 < length route.plans → IsTrue (is_used_shaped model v route)
-  used_shaped some = used (length route.nodes) (length route.plans) (is_used_shaped model v route) (and_right (is_same_number route.vehicle (pos v)) _ shaped) some
+  used_shaped some =
+      used (length route.nodes) (length route.plans) (is_used_shaped model v route) (and_right (is_same_number route.vehicle (pos v)) _ shaped) some
 
   pub lengths_of : (d : ℕ) → d < length route.plans → HasLengths model v route d
   lengths_of d low =
@@ -71,17 +73,21 @@ pub visits_long : (nodes : List ℕ) → length (visits_between nodes) ≡ lengt
 visits_long nodes = length-take-le (length nodes - 2) (drop 1 nodes) (omega (arith, length-drop 1 nodes))
 
 -- each route has the shape of its vehicle's
-pub route_shaped : (model : Model) (routes : List PrintedRoute) → IsTrue (are_routes_shaped model routes) → (v : ℕ) → v < length routes → IsTrue (is_shaped_at model routes v)
-route_shaped model routes h v low = list_all_range (is_shaped_at model routes) 0 (length routes) (and_right (length routes == length model.vehicles) _ h) v (omega arith) (omega (arith, low))
+pub route_shaped : (model : Model) (routes : List PrintedRoute) → IsTrue (are_routes_shaped model routes)
+    → (v : ℕ) → v < length routes → IsTrue (is_shaped_at model routes v)
+route_shaped model routes h v low =
+    list_all_range (is_shaped_at model routes) 0 (length routes) (and_right (length routes == length model.vehicles) _ h) v (omega arith) (omega (arith, low))
 
 pub routes_count : (model : Model) (routes : List PrintedRoute) → IsTrue (are_routes_shaped model routes) → length routes ≡ length model.vehicles
 routes_count model routes h = eq_of_test _ _ (and_left (length routes == length model.vehicles) _ h)
 
 -- a route with visits has a plan for each dimension
-pub plans_there : (model : Model) (v : ℕ) (route : PrintedRoute) → IsTrue (is_route_shaped model v route) → 0 < length (visits_of route) → length route.plans ≡ length model.dimensions
+pub plans_there : (model : Model) (v : ℕ) (route : PrintedRoute) → IsTrue (is_route_shaped model v route)
+    → 0 < length (visits_of route) → length route.plans ≡ length model.dimensions
 plans_there model v route shaped some = go (length route.nodes == 0) refl (and_right (is_same_number route.vehicle (pos v)) _ shaped)
   where
-    go : (b : Bool) → (length route.nodes == 0) ≡ b → IsTrue (cond b (length route.plans == 0) (is_used_shaped model v route)) → length route.plans ≡ length model.dimensions
+    go : (b : Bool) → (length route.nodes == 0) ≡ b
+        → IsTrue (cond b (length route.plans == 0) (is_used_shaped model v route)) → length route.plans ≡ length model.dimensions
     go true e h = absurd (let none = eqb-true (length route.nodes) 0 e in omega (arith, none, some, visits_long route.nodes))
     go false e h = eq_of_test _ _ (and_left (length route.plans == length model.dimensions) _ (and_right (nat_le 3 (length route.nodes)) _ h))
 
@@ -90,7 +96,8 @@ pub printed_shaped : (model : Model) (d : Data) (printed : Printed) → printed_
 unfolding printed_in
 printed_shaped model d printed h = of_reading (solution model.nodes [] d) h
   where
-    of_test : (other : Printed) (b : Bool) → are_routes_shaped model other.routes ≡ b → cond b (Some other) None ≡ Some printed → IsTrue (are_routes_shaped model printed.routes)
+    of_test : (other : Printed) (b : Bool) → are_routes_shaped model other.routes ≡ b
+        → cond b (Some other) None ≡ Some printed → IsTrue (are_routes_shaped model printed.routes)
     of_test other true e h = let same : other ≡ printed = cc in ap (λ p. are_routes_shaped model p.routes) (sym same) ∙ e
     of_test other false e h = absurd (cc)
 

@@ -16,7 +16,8 @@ use Rattle.vr_reach.specs.VisitRuns.{IsAllowedRun}
 use Rattle.vr_reach.proofs.SingleLemmas.{alone_in, came, goes, in_alone, within_ends}
 
 -- behind one arc
-pub crossed : (L : Line) (k : ℕ) (run allowed new : Run) (t s : ℤ) → run.lo ≤ℤ run.hi → pos 0 ≤ℤ s → new.lo ≡ int_max (run.lo +ℤ t) allowed.lo → new.hi ≡ int_min (run.hi +ℤ (t +ℤ s)) allowed.hi → IsAllowedRun L (suc k) allowed → t ≡ (arc_at L k).transit → s ≡ L.slack_max
+pub crossed : (L : Line) (k : ℕ) (run allowed new : Run) (t s : ℤ) → run.lo ≤ℤ run.hi → pos 0 ≤ℤ s → new.lo ≡ int_max (run.lo +ℤ t) allowed.lo
+    → new.hi ≡ int_min (run.hi +ℤ (t +ℤ s)) allowed.hi → IsAllowedRun L (suc k) allowed → t ≡ (arc_at L k).transit → s ≡ L.slack_max
     → (y : ℤ) → IsTrue (in_run new y) ↔ ((x : ℤ) × IsTrue (in_run run x) × Follows L k x y)
 crossed L k run allowed new t s order rises lo_is hi_is is t_is s_is y = (ahead, back)
   where
@@ -29,7 +30,8 @@ crossed L k run allowed new t s order rises lo_is hi_is is t_is s_is y = (ahead,
           x,
           way.1.1,
           record {
-            allowed = and_from (within (pos 0) horizon y) (slice_index_or L.allowed (suc k) (λ _. false) y) (within_ends allowed y is.ends way.0) (sym (is.exact y) ∙ way.0);
+            allowed = and_from (within (pos 0) horizon y) (slice_index_or L.allowed (suc k) (λ _. false) y)
+                (within_ends allowed y is.ends way.0) (sym (is.exact y) ∙ way.0);
             slack = record { at_least = omega (arith, ints, least, t_is); at_most = omega (arith, ints, most, t_is, s_is) };
           },
         )
@@ -49,7 +51,8 @@ module _ (L : Line) (set : ℤ → Bool) (a : ℕ) where
       (λ t. subst (λ n. IsLedToWithoutBreaks L set a n y) (sym e) t, λ led. subst (λ n. IsLedToWithoutBreaks L set a n y) e led)
 
   -- one arc more
-  pub led_more : (k : ℕ) → a ≤ k → (run new : Run) → ((x : ℤ) → IsTrue (in_run run x) ↔ IsLedToWithoutBreaks L set a (k - a) x) → ((y : ℤ) → IsTrue (in_run new y) ↔ ((x : ℤ) × IsTrue (in_run run x) × Follows L k x y))
+  pub led_more : (k : ℕ) → a ≤ k → (run new : Run) → ((x : ℤ) → IsTrue (in_run run x) ↔ IsLedToWithoutBreaks L set a (k - a) x)
+      → ((y : ℤ) → IsTrue (in_run new y) ↔ ((x : ℤ) × IsTrue (in_run run x) × Follows L k x y))
       → (y : ℤ) → IsTrue (in_run new y) ↔ IsLedToWithoutBreaks L set a (k + 1 - a) y
   led_more k le run new before cross y = (ahead, back)
     where
@@ -78,14 +81,18 @@ module _ (L : Line) (set : ℤ → Bool) (a : ℕ) where
       let there : IsLedToWithoutBreaks L set a (suc (m + n)) y = subst (λ i. IsLedToWithoutBreaks L set a i y) e led in
       none_on m none n there.0 there.1
 
-  pub none_led : (k last : ℕ) → a ≤ k → k ≤ last → (run : Run) → (run.lo ≤ℤ run.hi → ⊥) → ((x : ℤ) → IsTrue (in_run run x) ↔ IsLedToWithoutBreaks L set a (k - a) x) → (y : ℤ) → IsTrue (in_run run y) ↔ IsLedToWithoutBreaks L set a (last - a) y
+  pub none_led : (k last : ℕ) → a ≤ k → k ≤ last → (run : Run) → (run.lo ≤ℤ run.hi → ⊥)
+      → ((x : ℤ) → IsTrue (in_run run x) ↔ IsLedToWithoutBreaks L set a (k - a) x) → (y : ℤ) → IsTrue (in_run run y) ↔ IsLedToWithoutBreaks L set a (last - a) y
   none_led k last le order run empty is y =
       let nothing : (x : ℤ) → IsTrue (in_run run x) → ⊥ = λ x there. empty (grind (arith, ints, there)) in
-      let e : last - a ≡ (k - a) + (last - k) = omega (arith, le, order) in
-      (λ there. absurd (nothing y there), λ led. absurd (none_on (k - a) (λ x before. nothing x ((is x).1 before)) (last - k) y (subst (λ i. IsLedToWithoutBreaks L set a i y) e led)))
+      let e : last - a ≡ (k - a) + (last - k) = omega (arith, le, order) in (
+        λ there. absurd (nothing y there),
+        λ led. absurd (none_on (k - a) (λ x before. nothing x ((is x).1 before)) (last - k) y (subst (λ i. IsLedToWithoutBreaks L set a i y) e led)),
+      )
 
 -- a walk goes all the way exactly where its run shares a number with the set behind
-pub alone_where : (L : Line) (from to : List (List Run)) (a e b : ℕ) (begun run : Run) → IsTrue (is_run (level_at from b)) → IsOnlyRun (level_at from b) begun → ((y : ℤ) → IsTrue (in_run run y) ↔ IsLedToWithoutBreaks L (in_run begun) a (e - a) y)
+pub alone_where : (L : Line) (from to : List (List Run)) (a e b : ℕ) (begun run : Run) → IsTrue (is_run (level_at from b))
+    → IsOnlyRun (level_at from b) begun → ((y : ℤ) → IsTrue (in_run run y) ↔ IsLedToWithoutBreaks L (in_run begun) a (e - a) y)
     → ShareANumber (run ∷ []) (level_at to b) ↔ GoesAlone L from to a e b
 alone_where L from to a e b begun run one only is = (ahead, back)
   where
@@ -101,4 +108,5 @@ alone_where L from to a e b begun run one only is = (ahead, back)
     }
 
     back : GoesAlone L from to a e b → ShareANumber (run ∷ []) (level_at to b)
-    back goes = (goes.cumul, in_alone run goes.cumul ((is goes.cumul).1 (subst (λ set. IsLedToWithoutBreaks L set a (e - a) goes.cumul) same goes.led)), goes.reaches)
+    back goes =
+        (goes.cumul, in_alone run goes.cumul ((is goes.cumul).1 (subst (λ set. IsLedToWithoutBreaks L set a (e - a) goes.cumul) same goes.led)), goes.reaches)

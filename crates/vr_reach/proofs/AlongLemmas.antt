@@ -27,7 +27,9 @@ use Rattle.vr_reach.proofs.StandingLemmas.{reached_in}
 use Rattle.vr_reach.proofs.Transfer.{reaching_too}
 
 -- an arc of a list, from or to levels of a stop
-pub crossing_by : (model : Model) (d v : ℕ) (ends : Ends) → AreSoundBreaks model d v ends → (levels : List (List Run)) → AreLevels (breaks_of (dimension_at model d) v) levels → (hop : Hop) → IsSoundHop hop → (set : List Run) → IsCumuls set → IsCrossing levels hop set ends.breaks
+pub crossing_by : (model : Model) (d v : ℕ) (ends : Ends) → AreSoundBreaks model d v ends
+    → (levels : List (List Run)) → AreLevels (breaks_of (dimension_at model d) v) levels → (hop : Hop)
+    → IsSoundHop hop → (set : List Run) → IsCumuls set → IsCrossing levels hop set ends.breaks
 crossing_by model d v ends are levels form hop sound set cumuls = record {
   each_break = are.valid;
   few_breaks = are.few;
@@ -36,18 +38,22 @@ crossing_by model d v ends are levels form hop sound set cumuls = record {
   cumuls = cumuls;
 }
 
-module _ (sound : LinesAreSound) (model : Model) (well : IsWellFormed model) (d v : ℕ) (d_low : d < length model.dimensions) (v_low : v < length model.vehicles) where
+module _ (sound : LinesAreSound) (model : Model) (well : IsWellFormed model) (d v : ℕ)
+    (d_low : d < length model.dimensions) (v_low : v < length model.vehicles) where
   -- the levels of the start
-  pub started : StartIsReached → (ends : Ends) → AreEndSets model d v ends → (levels : List (List Run)) → AreStartLevels ends.start_set ends.breaks levels → AreLevels ends.breaks levels → (list : List ℕ) → IsUsed model list → IsReachedAt model d v list 0 levels
+  pub started : StartIsReached → (ends : Ends) → AreEndSets model d v ends → (levels : List (List Run)) → AreStartLevels ends.start_set ends.breaks levels
+      → AreLevels ends.breaks levels → (list : List ℕ) → IsUsed model list → IsReachedAt model d v list 0 levels
   started law ends are levels is form list used =
       let same = are.breaks_are.same in
       let set = are.start_set_is in record {
         form = subst (λ rows. AreLevels rows levels) same form;
-        reached = law (line model d v list) (sound_line sound model well d v d_low v_low list used) ends.start_set levels (start_allows_set model d v list ends.start_set set.exact set.cumuls) (subst (λ rows. AreStartLevels ends.start_set rows levels) same is);
+        reached = law (line model d v list) (sound_line sound model well d v d_low v_low list used) ends.start_set levels
+            (start_allows_set model d v list ends.start_set set.exact set.cumuls) (subst (λ rows. AreStartLevels ends.start_set rows levels) same is);
       }
 
   -- the levels of the end
-  pub finished : EndIsReached → (ends : Ends) → AreEndSets model d v ends → (levels : List (List Run)) → AreEndLevels ends.end_set ends.breaks levels → AreLevels ends.breaks levels → (list : List ℕ) → IsUsed model list → IsReachingFrom model d v list (suc (length list)) levels
+  pub finished : EndIsReached → (ends : Ends) → AreEndSets model d v ends → (levels : List (List Run)) → AreEndLevels ends.end_set ends.breaks levels
+      → AreLevels ends.breaks levels → (list : List ℕ) → IsUsed model list → IsReachingFrom model d v list (suc (length list)) levels
   finished law ends are levels is form list used =
       let same = are.breaks_are.same in
       let set = are.end_set_is in
@@ -60,8 +66,10 @@ module _ (sound : LinesAreSound) (model : Model) (well : IsWellFormed model) (d 
       }
 
   -- what the end is reached from before the arc from stop k
-  pub reaching_before : (list : List ℕ) → IsUsed model list → EndReachedBeforeArc → (breaks : List BreakRow) → breaks ≡ breaks_of (dimension_at model d) v → (k : ℕ) → k ≤ length list → (hop : Hop) → hop ≡ hop_at (line model d v list) k → (set : List Run) → IsAllowedSet (line model d v list) k set
-      → (to new : List (List Run)) → AreReachingEnd (line model d v list) (suc k) to → AreCrossedBack to hop set breaks new → AreReachingEnd (line model d v list) k new
+  pub reaching_before : (list : List ℕ) → IsUsed model list → EndReachedBeforeArc → (breaks : List BreakRow) → breaks ≡ breaks_of (dimension_at model d) v
+      → (k : ℕ) → k ≤ length list → (hop : Hop) → hop ≡ hop_at (line model d v list) k → (set : List Run) → IsAllowedSet (line model d v list) k set
+      → (to new : List (List Run)) → AreReachingEnd (line model d v list) (suc k) to
+      → AreCrossedBack to hop set breaks new → AreReachingEnd (line model d v list) k new
   reaching_before list used law breaks same k le hop hop_is set allows to new reaching crossed =
       let low : k < length (line model d v list).arcs = (let n = arcs_of_line model d v list in omega (arith, n, le)) in
       let here = subst (λ h. AreCrossedBack to h set breaks new) hop_is crossed in
@@ -70,7 +78,8 @@ module _ (sound : LinesAreSound) (model : Model) (well : IsWellFormed model) (d 
 
 -- ---- rows in a part of a place
 
-pub read_window : (rows : List (List (List Run))) (first n k : ℕ) (d : List (List Run)) → k < n → first + k < length rows → get_or (take n (drop first rows)) k d ≡ row_at rows (first + k)
+pub read_window : (rows : List (List (List Run))) (first n k : ℕ) (d : List (List Run)) → k < n
+    → first + k < length rows → get_or (take n (drop first rows)) k d ≡ row_at rows (first + k)
 read_window [] first n k d low lt = absurd (omega (arith, lt))
 read_window (r ∷ rs) zero n k d low lt =
     let e : k ≡ 0 + k = omega arith in
@@ -88,7 +97,8 @@ window_long [] (suc f) (suc n) le = absurd (omega (arith, le))
 window_long (r ∷ rs) (suc f) n le = window_long rs f n (omega (arith, le))
 
 -- the part between what stands before it and behind it
-pub window_of : (before part behind : List (List (List Run))) (first n : ℕ) → length before ≡ first → length part ≡ n → take n (drop first (before ++ (part ++ behind))) ≡ part
+pub window_of : (before part behind : List (List (List Run))) (first n : ℕ) → length before ≡ first
+    → length part ≡ n → take n (drop first (before ++ (part ++ behind))) ≡ part
 window_of [] part behind zero n is long = front part n long
   where
     front : (xs : List (List (List Run))) (m : ℕ) → length xs ≡ m → take m (xs ++ behind) ≡ xs
@@ -119,13 +129,15 @@ module _ (model : Model) (d v : ℕ) (list : List ℕ) where
   none_last rows = record { within = omega arith; there = omega arith; each = λ j low. absurd (omega (arith, low)) }
 
 -- the rows from the first that is known on
-pub last_from : (model : Model) (d v : ℕ) (list : List ℕ) (n : ℕ) (rows : List (List (List Run))) → AreLastRows model d v list n rows → length rows ≡ suc (suc (length list)) → (k : ℕ) → k + n ≡ suc (suc (length list))
+pub last_from : (model : Model) (d v : ℕ) (list : List ℕ) (n : ℕ) (rows : List (List (List Run)))
+    → AreLastRows model d v list n rows → length rows ≡ suc (suc (length list)) → (k : ℕ) → k + n ≡ suc (suc (length list))
     → HoldFrom (IsReachingFrom model d v list) k rows
 last_from model d v list n rows are long k at j low less =
     let i : suc (length list) - (suc (length list) - j) ≡ j = omega (arith, less, long) in
     let i_too : length rows - suc (suc (length list) - j) ≡ j = omega (arith, less, long) in
     let here = are.each (suc (length list) - j) (omega (arith, low, less, at, long)) in
-    subst (λ x. IsReachingFrom model d v list j (row_at rows x)) i_too (subst (λ x. IsReachingFrom model d v list x (row_at rows (length rows - suc (suc (length list) - j)))) i here)
+    subst (λ x. IsReachingFrom model d v list j (row_at rows x)) i_too
+    (subst (λ x. IsReachingFrom model d v list x (row_at rows (length rows - suc (suc (length list) - j)))) i here)
 
 -- the first of nodes that two lists share at the front
 fewer_at_front : (old new : List ℕ) (a k : ℕ) → SharesFront old new a → k ≤ a → SharesFront old new k
@@ -143,8 +155,10 @@ fewer_at_front old new a k shares le = record {
     again (suc k) (y ∷ ys) (suc a) le = ap (λ l. y ∷ l) (again k ys a (omega (arith, le)))
 
 -- a list has the first rows of another with which it shares the front
-pub shared_first : (model : Model) (d v : ℕ) (old new : List ℕ) (rows : BothWays) → AreRowsIfUsed model d v old rows → (a : ℕ) → SharesFront old new a → (n : ℕ) → (old ≡ [] → n ≡ 0) → (0 < length old → n ≡ a + 1) → AreFirstRows model d v new n rows.forward
-shared_first model d v [] new rows kept a shares n empty some = subst (λ i. AreFirstRows model d v new i rows.forward) (sym (empty refl)) (none_first model d v new rows.forward)
+pub shared_first : (model : Model) (d v : ℕ) (old new : List ℕ) (rows : BothWays) → AreRowsIfUsed model d v old rows → (a : ℕ)
+    → SharesFront old new a → (n : ℕ) → (old ≡ [] → n ≡ 0) → (0 < length old → n ≡ a + 1) → AreFirstRows model d v new n rows.forward
+shared_first model d v [] new rows kept a shares n empty some =
+    subst (λ i. AreFirstRows model d v new i rows.forward) (sym (empty refl)) (none_first model d v new rows.forward)
 shared_first model d v (x ∷ xs) new rows kept a shares n empty some =
     let is : n ≡ a + 1 = some (omega arith) in
     let r = (kept refl).forward in
@@ -152,12 +166,15 @@ shared_first model d v (x ∷ xs) new rows kept a shares n empty some =
     record {
       within = omega (arith, is, shares.within_new);
       there = omega (arith, is, old_low, r.row_of_each_stop);
-      each = λ k low. reached_in model d v (x ∷ xs) new k (row_at rows.forward k) (fewer_at_front (x ∷ xs) new a k shares (omega (arith, low, is))) (r.each k (omega (arith, low, is, old_low)));
+      each = λ k low. reached_in model d v (x ∷ xs) new k (row_at rows.forward k)
+          (fewer_at_front (x ∷ xs) new a k shares (omega (arith, low, is))) (r.each k (omega (arith, low, is, old_low)));
     }
 
 -- a list has the last rows of another with which it shares the back
-pub shared_last : (model : Model) (d v : ℕ) (old new : List ℕ) (rows : BothWays) → AreRowsIfUsed model d v old rows → (z : ℕ) → SharesBack old new z → (n : ℕ) → (old ≡ [] → n ≡ 0) → (0 < length old → n ≡ z + 1) → AreLastRows model d v new n rows.backward
-shared_last model d v [] new rows kept z shares n empty some = subst (λ i. AreLastRows model d v new i rows.backward) (sym (empty refl)) (none_last model d v new rows.backward)
+pub shared_last : (model : Model) (d v : ℕ) (old new : List ℕ) (rows : BothWays) → AreRowsIfUsed model d v old rows → (z : ℕ)
+    → SharesBack old new z → (n : ℕ) → (old ≡ [] → n ≡ 0) → (0 < length old → n ≡ z + 1) → AreLastRows model d v new n rows.backward
+shared_last model d v [] new rows kept z shares n empty some =
+    subst (λ i. AreLastRows model d v new i rows.backward) (sym (empty refl)) (none_last model d v new rows.backward)
 shared_last model d v (x ∷ xs) new rows kept z shares n empty some =
     let old : List ℕ = x ∷ xs in
     let is : n ≡ z + 1 = some (omega arith) in
@@ -181,7 +198,8 @@ shared_last model d v (x ∷ xs) new rows kept z shares n empty some =
     }
 
 -- the first row alone, written
-pub first_row : (model : Model) (d v : ℕ) (list : List ℕ) (rows : List (List (List Run))) (new : List (List Run)) → 0 < length rows → IsReachedAt model d v list 0 new → AreFirstRows model d v list 1 (set rows 0 new)
+pub first_row : (model : Model) (d v : ℕ) (list : List ℕ) (rows : List (List (List Run))) (new : List (List Run))
+    → 0 < length rows → IsReachedAt model d v list 0 new → AreFirstRows model d v list 1 (set rows 0 new)
 first_row model d v list rows new some here = record {
   within = omega arith;
   there = (let n = length-set rows 0 new in omega (arith, n, some));
@@ -189,7 +207,8 @@ first_row model d v list rows new some here = record {
 }
 
 -- the last row alone, written
-pub last_row : (model : Model) (d v : ℕ) (list : List ℕ) (rows : List (List (List Run))) (new : List (List Run)) (k : ℕ) → k ≡ suc (length list) → length rows ≡ suc (suc (length list)) → IsReachingFrom model d v list (suc (length list)) new → AreLastRows model d v list 1 (set rows k new)
+pub last_row : (model : Model) (d v : ℕ) (list : List ℕ) (rows : List (List (List Run))) (new : List (List Run)) (k : ℕ) → k ≡ suc (length list)
+    → length rows ≡ suc (suc (length list)) → IsReachingFrom model d v list (suc (length list)) new → AreLastRows model d v list 1 (set rows k new)
 last_row model d v list rows new k at long here =
     let n = length-set rows k new in
     let last : length rows ≡ k + 1 = omega (arith, long, at) in
@@ -206,7 +225,8 @@ last_row model d v list rows new k at long here =
 
 module _ (model : Model) (d v : ℕ) (list : List ℕ) (kept : List (List (List Run))) (first stops : ℕ) (there : first + stops ≤ length kept) (n : ℕ) where
   -- what is known of the first rows, in a place with more room
-  pub known_stays : AreFirstRows model d v list n (take stops (drop first kept)) → (k : ℕ) → k ≤ n → (0 < k → first ≡ 0) → (fitted : List (List (List Run))) → length kept ≤ length fitted → take (length kept) fitted ≡ kept
+  pub known_stays : AreFirstRows model d v list n (take stops (drop first kept)) → (k : ℕ) → k ≤ n → (0 < k → first ≡ 0)
+      → (fitted : List (List (List Run))) → length kept ≤ length fitted → take (length kept) fitted ≡ kept
       → (wanted : ℕ) → wanted ≡ suc (suc (length list)) → wanted ≤ length fitted → AreFirstRows model d v list k (take wanted fitted)
   known_stays are k le begins fitted more same wanted is room =
       let within = are.within in
@@ -221,14 +241,17 @@ module _ (model : Model) (d v : ℕ) (list : List ℕ) (kept : List (List (List 
             let in_stops : j < stops = omega (arith, low, le, in_old, long) in
             let in_kept : j < length kept = omega (arith, in_stops, there) in
             let same_at : first + j ≡ j = omega (arith, at) in
-            let old : row_at (take stops (drop first kept)) j ≡ row_at kept j = read_window kept first stops j [] in_stops (omega (arith, in_stops, there)) ∙ ap (row_at kept) same_at in
-            let here : row_at (take wanted fitted) j ≡ row_at kept j = read_front fitted wanted j [] (omega (arith, low, le, within, is)) (omega (arith, in_kept, more))
+            let old : row_at (take stops (drop first kept)) j ≡ row_at kept j = read_window kept first stops j [] in_stops (omega (arith, in_stops, there))
+            ∙ ap (row_at kept) same_at in
+            let here : row_at (take wanted fitted) j ≡ row_at kept j = read_front fitted
+            wanted j [] (omega (arith, low, le, within, is)) (omega (arith, in_kept, more))
             ∙ (sym (read_front fitted (length kept) j [] in_kept (omega (arith, in_kept, more))) ∙ ap (λ rows. row_at rows j) same) in
             subst (IsReachedAt model d v list j) (old ∙ sym here) (are.each j (omega (arith, low, le)));
       }
 
   -- what is known of the last rows, where they stay in their place
-  pub moved_last : AreLastRows model d v list n (take stops (drop first kept)) → (begin wanted : ℕ) → begin + wanted ≡ first + stops → wanted ≡ suc (suc (length list)) → AreLastRows model d v list n (take wanted (drop begin kept))
+  pub moved_last : AreLastRows model d v list n (take stops (drop first kept)) → (begin wanted : ℕ) → begin + wanted ≡ first + stops
+      → wanted ≡ suc (suc (length list)) → AreLastRows model d v list n (take wanted (drop begin kept))
   moved_last are begin wanted ends is =
       let within = are.within in
       let in_old = are.there in
@@ -238,9 +261,12 @@ module _ (model : Model) (d v : ℕ) (list : List ℕ) (kept : List (List (List 
         within = within;
         there = omega (arith, within, is, long_new);
         each = λ j low.
-            let old_at : first + (length (take stops (drop first kept)) - suc j) ≡ begin + (length (take wanted (drop begin kept)) - suc j) = omega (arith, long, long_new, ends, is, within, in_old, low) in
-            let old = read_window kept first stops (length (take stops (drop first kept)) - suc j) [] (omega (arith, long, low, in_old)) (omega (arith, long, low, in_old, there)) in
-            let here = read_window kept begin wanted (length (take wanted (drop begin kept)) - suc j) [] (omega (arith, long_new, low, within, is)) (omega (arith, long_new, low, within, is, ends, there)) in
+            let old_at : first + (length (take stops (drop first kept)) - suc j) ≡ begin + (length (take wanted (drop begin kept)) - suc j) =
+            omega (arith, long, long_new, ends, is, within, in_old, low) in
+            let old = read_window kept first stops (length (take stops (drop first kept)) - suc j)
+            [] (omega (arith, long, low, in_old)) (omega (arith, long, low, in_old, there)) in
+            let here = read_window kept begin wanted (length (take wanted (drop begin kept)) - suc j) []
+            (omega (arith, long_new, low, within, is)) (omega (arith, long_new, low, within, is, ends, there)) in
             subst (IsReachingFrom model d v list (suc (length list) - j)) (old ∙ (ap (row_at kept) old_at ∙ sym here)) (are.each j low);
       }
 

@@ -32,36 +32,44 @@ pub sound_of : (of : Driven) → IsSound (line_of of)
 sound_of of = sound_line lines_are_sound of.closed.model.now of.closed.well_formed of.d of.v of.dimension of.vehicle of.list.now of.used
 
 -- what is reached behind the arc from stop k
-pub next_on : (of : Driven) (breaks : List BreakRow) → breaks ≡ breaks_of (dimension_at of.closed.model.now of.d) of.v → (k : ℕ) → k ≤ length of.list.now → (hop : Hop) → hop ≡ hop_at (line_of of) k → (set : List Run) → IsAllowedSet (line_of of) (k + 1) set
+pub next_on : (of : Driven) (breaks : List BreakRow) → breaks ≡ breaks_of (dimension_at of.closed.model.now of.d) of.v → (k : ℕ)
+    → k ≤ length of.list.now → (hop : Hop) → hop ≡ hop_at (line_of of) k → (set : List Run) → IsAllowedSet (line_of of) (k + 1) set
     → (from new : List (List Run)) → AreReached (line_of of) k from → AreCrossed from hop set breaks new → AreReached (line_of of) (k + 1) new
 next_on of = reached_next lines_are_sound of.closed.model.now of.closed.well_formed of.d of.v of.dimension of.vehicle of.list.now of.used reached_behind_arc
 
 -- where a walk meets what the end is reached from
-pub meets_on : (of : Driven) (breaks : List BreakRow) → breaks ≡ breaks_of (dimension_at of.closed.model.now of.d) of.v → (k last : ℕ) → last ≤ suc (length of.list.now) → k ≡ last → (ahead behind : List (List Run)) → AreLevels breaks ahead → AreLevels breaks behind
+pub meets_on : (of : Driven) (breaks : List BreakRow) → breaks ≡ breaks_of (dimension_at of.closed.model.now of.d) of.v → (k last : ℕ)
+    → last ≤ suc (length of.list.now) → k ≡ last → (ahead behind : List (List Run)) → AreLevels breaks ahead → AreLevels breaks behind
     → AreReached (line_of of) k ahead → AreReachingEnd (line_of of) last behind → Meets (line_of of) last ahead behind
 meets_on of = meets lines_are_sound of.closed.model.now of.closed.well_formed of.d of.v of.dimension of.vehicle of.list.now of.used
 
 -- ---- levels, by the tests and by the definitions
 
-pub reached_by : (model : Model) (d v : ℕ) (list : List ℕ) (k : ℕ) (levels : List (List Run)) → IsReachedAt model d v list k levels → IsReachedBy (line model d v list) k levels
+pub reached_by : (model : Model) (d v : ℕ) (list : List ℕ) (k : ℕ) (levels : List (List Run))
+    → IsReachedAt model d v list k levels → IsReachedBy (line model d v list) k levels
 reached_by model d v list k levels is =
     let L : Line = line model d v list in record {
       form = is.form;
-      exact = λ b few x. same_tests (has (level_at levels b) x) (is_reached L k b x) (λ t. (reached_as_tested L k b x).1 ((is.reached b few x).0 t)) (λ t. (is.reached b few x).1 ((reached_as_tested L k b x).0 t));
+      exact = λ b few x. same_tests (has (level_at levels b) x) (is_reached L k b x)
+          (λ t. (reached_as_tested L k b x).1 ((is.reached b few x).0 t)) (λ t. (is.reached b few x).1 ((reached_as_tested L k b x).0 t));
     }
 
-pub reaching_by : (model : Model) (d v : ℕ) (list : List ℕ) (k : ℕ) (levels : List (List Run)) → IsReachingFrom model d v list k levels → IsReachingBy (line model d v list) k levels
+pub reaching_by : (model : Model) (d v : ℕ) (list : List ℕ) (k : ℕ) (levels : List (List Run))
+    → IsReachingFrom model d v list k levels → IsReachingBy (line model d v list) k levels
 reaching_by model d v list k levels is =
     let L : Line = line model d v list in record {
       form = is.form;
-      exact = λ b few x. same_tests (has (level_at levels b) x) (reaches_end L k b x) (λ t. (end_reached_as_tested L k b x).1 ((is.reaching b few x).0 t)) (λ t. (is.reaching b few x).1 ((end_reached_as_tested L k b x).0 t));
+      exact = λ b few x. same_tests (has (level_at levels b) x) (reaches_end L k b x)
+          (λ t. (end_reached_as_tested L k b x).1 ((is.reaching b few x).0 t)) (λ t. (is.reaching b few x).1 ((end_reached_as_tested L k b x).0 t));
     }
 
 as_reached : (L : Line) (k : ℕ) (levels : List (List Run)) → IsReachedBy L k levels → AreReached L k levels
-as_reached L k levels is b few x = (λ t. (reached_as_tested L k b x).0 (sym (is.exact b few x) ∙ t), λ reached. is.exact b few x ∙ (reached_as_tested L k b x).1 reached)
+as_reached L k levels is b few x =
+    (λ t. (reached_as_tested L k b x).0 (sym (is.exact b few x) ∙ t), λ reached. is.exact b few x ∙ (reached_as_tested L k b x).1 reached)
 
 as_reaching : (L : Line) (k : ℕ) (levels : List (List Run)) → IsReachingBy L k levels → AreReachingEnd L k levels
-as_reaching L k levels is b few x = (λ t. (end_reached_as_tested L k b x).0 (sym (is.exact b few x) ∙ t), λ reaches. is.exact b few x ∙ (end_reached_as_tested L k b x).1 reaches)
+as_reaching L k levels is b few x =
+    (λ t. (end_reached_as_tested L k b x).0 (sym (is.exact b few x) ∙ t), λ reaches. is.exact b few x ∙ (end_reached_as_tested L k b x).1 reaches)
 
 -- what a leg begins with, and what it meets
 pub leg_from : (leg : Leg) → AreReached (line_of_leg leg) leg.begin leg.from.now

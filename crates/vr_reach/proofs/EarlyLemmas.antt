@@ -1,5 +1,6 @@
 -- The earliest cumuls along a line without breaks are those of its chosen schedule.
-use Rattle.std.proofs.Common.{◌≡◌, ◌∙◌, ℕ, suc, ◌+◌, ◌<◌, ◌≤◌, ◌⊎◌, inl, inr, Bool, List, [], ◌∷◌, ◌++◌, length, map, ℤ, pos, ◌≤ℤ◌, ◌<ℤ◌, refl, sym, ap, subst, arith}
+use Rattle.std.proofs.Common.{◌≡◌, ◌∙◌, ℕ, suc, ◌+◌, ◌<◌, ◌≤◌, ◌⊎◌, inl, inr, Bool, List, [], ◌∷◌, ◌++◌, length, map, ℤ, pos, ◌≤ℤ◌, ◌<ℤ◌, refl, sym, ap, subst}
+use Rattle.std.proofs.Common.{arith}
 use Rattle.std.specs.Prelude.{All, false, slice_index_or, cond, IsTrue, int_le, int_lt, ◌&&◌, ◌||◌}
 use Rattle.std.proofs.lemmas.Bool.{and_parts, and_from}
 use Rattle.std.proofs.lemmas.Int.{ints, clamps}
@@ -45,7 +46,9 @@ pub at_old : (cumuls : List ℤ) (x : ℤ) (i : ℕ) → i < length cumuls → n
 at_old cumuls x i low = get_or_append_left cumuls (x ∷ []) (pos 0) i low
 
 pub at_new : (cumuls : List ℤ) (x : ℤ) (k : ℕ) → length cumuls ≡ k → number_at (cumuls ++ x ∷ []) k ≡ x
-at_new cumuls x k long = let e : length cumuls + 0 ≡ k = omega (arith, long) in ap (number_at (cumuls ++ x ∷ [])) (sym e) ∙ get_or-append-add cumuls (x ∷ []) 0 (pos 0)
+at_new cumuls x k long =
+    let e : length cumuls + 0 ≡ k = omega (arith, long) in
+    ap (number_at (cumuls ++ x ∷ [])) (sym e) ∙ get_or-append-add cumuls (x ∷ []) 0 (pos 0)
 
 -- a number of the run that a stop allows is a cumul that it allows
 pub allowed_in : (line : Line) (k : ℕ) (run : Run) (x : ℤ) → IsAllowedRun line k run → run.lo ≤ℤ x → x ≤ℤ run.hi → IsTrue (allows line k x)
@@ -66,9 +69,11 @@ module _ (line : Line) (stops : length line.allowed ≡ suc (length line.arcs)) 
   pub begin_early : (run : Run) → IsAllowedRun line 0 run → run.lo ≤ℤ run.hi → AreEarly line 0 (run.lo ∷ [])
   begin_early run is some = record {
     many = refl;
-    allowed = λ i le. let zeroth : 0 ≡ i = omega (arith, le) in subst (λ j. IsTrue (allows line j (number_at (run.lo ∷ []) j))) zeroth (allowed_in line 0 run run.lo is (omega (arith, ints)) some);
+    allowed = λ i le. let zeroth : 0 ≡ i = omega (arith, le) in
+        subst (λ j. IsTrue (allows line j (number_at (run.lo ∷ []) j))) zeroth (allowed_in line 0 run run.lo is (omega (arith, ints)) some);
     slacks = λ i low. absurd (omega (arith, low));
-    least = λ plan s i le. let zeroth : 0 ≡ i = omega (arith, le) in subst (λ j. number_at (run.lo ∷ []) j ≤ℤ cumul plan j) zeroth (not_below line 0 run (cumul plan 0) is (s.cumuls_allowed 0 (omega (arith, stops))));
+    least = λ plan s i le. let zeroth : 0 ≡ i = omega (arith, le) in
+        subst (λ j. number_at (run.lo ∷ []) j ≤ℤ cumul plan j) zeroth (not_below line 0 run (cumul plan 0) is (s.cumuls_allowed 0 (omega (arith, stops))));
   }
 
   pub step_early : (k : ℕ) (cumuls : List ℤ) → k < length line.arcs → AreEarly line k cumuls → (run : Run) → IsAllowedRun line (suc k) run → (next : ℤ)
@@ -77,7 +82,8 @@ module _ (line : Line) (stops : length line.allowed ≡ suc (length line.arcs)) 
     many = let n = length-append cumuls (next ∷ []) in let m = are.many in omega (arith, n, m);
     allowed = λ i le. elim (earlier i le) [
       | inl old ↦ subst (λ x. IsTrue (allows line i x)) (sym (at_old cumuls next i (let m = are.many in omega (arith, m, old)))) (are.allowed i old)
-      | inr new ↦ subst (λ j. IsTrue (allows line j (number_at (cumuls ++ next ∷ []) j))) (sym new) (subst (λ x. IsTrue (allows line (suc k) x)) (sym last) (allowed_in line (suc k) run next is above behind.most))
+      | inr new ↦ subst (λ j. IsTrue (allows line j (number_at (cumuls ++ next ∷ []) j))) (sym new)
+          (subst (λ x. IsTrue (allows line (suc k) x)) (sym last) (allowed_in line (suc k) run next is above behind.most))
     ];
     slacks = λ i less. elim (sooner i less) [
       | inl old ↦ subst (IsIn (pos 0) line.slack_max) (sym (same i old)) (are.slacks i old)
@@ -146,7 +152,8 @@ module _ (line : Line) (stops : length line.allowed ≡ suc (length line.arcs)) 
       start_of_each_break = sym (ap length none);
       cumuls_allowed = λ k low. are.allowed k (omega (arith, stops, low));
       slacks_left = λ k low. slack_is k low;
-      slacks_bounded = λ k low. let s = are.slacks k low in (subst (λ x. pos 0 ≤ℤ x) (sym (slack_is k low)) s.at_least, subst (λ x. x ≤ℤ line.slack_max) (sym (slack_is k low)) s.at_most);
+      slacks_bounded = λ k low. let s = are.slacks k low in
+          (subst (λ x. pos 0 ≤ℤ x) (sym (slack_is k low)) s.at_least, subst (λ x. x ≤ℤ line.slack_max) (sym (slack_is k low)) s.at_most);
       breaks_in_range = λ i low. absurd (no_break i low);
       breaks_in_order = λ i low. absurd (no_break (suc i) low);
       breaks_placed = λ i low. absurd (no_break i low);
@@ -181,22 +188,28 @@ module _ (model : Model) (d v : ℕ) (list : List ℕ) where
   stops_and_arcs : length (line model d v list).allowed ≡ suc (length (line model d v list).arcs)
   stops_and_arcs = let n = stops_of_line model d v list in let m = arcs_of_line model d v list in omega (arith, n, m)
 
-  pub begin_list : (run : Run) → IsRunFor (allowed_by model d v Start) run → run.lo ≤ℤ run.hi → (cumuls : List ℤ) → cumuls ≡ run.lo ∷ [] → AreEarly (line model d v list) 0 cumuls
-  begin_list run is some cumuls are = subst (AreEarly (line model d v list) 0) (sym are) (begin_early (line model d v list) stops_and_arcs run (record { exact = is.exact; ends = is.ends }) some)
+  pub begin_list : (run : Run) → IsRunFor (allowed_by model d v Start) run → run.lo ≤ℤ run.hi
+      → (cumuls : List ℤ) → cumuls ≡ run.lo ∷ [] → AreEarly (line model d v list) 0 cumuls
+  begin_list run is some cumuls are = subst (AreEarly (line model d v list) 0) (sym are)
+      (begin_early (line model d v list) stops_and_arcs run (record { exact = is.exact; ends = is.ends }) some)
 
-  pub step_list : (k : ℕ) (cumuls : List ℤ) → k ≤ length list → AreEarly (line model d v list) k cumuls → (run : Run) → IsAllowedRun (line model d v list) (k + 1) run
-      → (origin target : ℕ) → origin ≡ node_at_stop model v list k → target ≡ node_at_stop model v list (k + 1) → (cumul t s next : ℤ) → cumul ≡ number_at cumuls k → t ≡ transit model d v origin target → s ≡ (dimension_at model d).slack_max
+  pub step_list : (k : ℕ) (cumuls : List ℤ) → k ≤ length list → AreEarly (line model d v list) k cumuls
+      → (run : Run) → IsAllowedRun (line model d v list) (k + 1) run
+      → (origin target : ℕ) → origin ≡ node_at_stop model v list k → target ≡ node_at_stop model v list (k + 1) → (cumul t s next : ℤ)
+      → cumul ≡ number_at cumuls k → t ≡ transit model d v origin target → s ≡ (dimension_at model d).slack_max
       → IsEarliestBehind cumul t s run next → AreEarly (line model d v list) (k + 1) (cumuls ++ next ∷ [])
   step_list k cumuls le are run is origin target from to cumul t s next cumul_is t_is s_is behind =
       let L : Line = line model d v list in
       let more : k + 1 ≡ suc k = omega arith in
       let low : k < length L.arcs = (let n = arcs_of_line model d v list in omega (arith, n, le)) in
-      let hop = hop_between_stops model d v list k origin target (hop_of (dimension_at model d).slack_max (line_arc model d v (record { vehicle = v; origin = origin; target = target }))) le from to refl in
+      let hop = hop_between_stops model d v list k origin target
+      (hop_of (dimension_at model d).slack_max (line_arc model d v (record { vehicle = v; origin = origin; target = target }))) le from to refl in
       let way : t ≡ (arc_at L k).transit = t_is ∙ ap (λ (h : Hop). h.transit) hop in
       let here = subst (λ x. IsEarliestBehind x t s run next) cumul_is behind in
       let there = subst (λ x. IsEarliestBehind (number_at cumuls k) x s run next) way here in
       let last = subst (λ x. IsEarliestBehind (number_at cumuls k) (arc_at L k).transit x run next) s_is there in
-      subst (λ i. AreEarly L i (cumuls ++ next ∷ [])) (sym more) (step_early L stops_and_arcs k cumuls low are run (subst (λ i. IsAllowedRun L i run) more is) next last)
+      subst (λ i. AreEarly L i (cumuls ++ next ∷ [])) (sym more)
+      (step_early L stops_and_arcs k cumuls low are run (subst (λ i. IsAllowedRun L i run) more is) next last)
 
   module _ (cumuls : List ℤ) (are : AreEarly (line model d v list) (length list + 1) cumuls) where
     pub chosen_list : ChosenIsLeast → breaks_of (dimension_at model d) v ≡ [] → AreChosen (line model d v list) cumuls
@@ -211,4 +224,5 @@ module _ (model : Model) (d v : ℕ) (list : List ℕ) where
     in_range k other low =
         let le : k ≤ length list + 1 = (let n = are.many in omega (arith, n, low)) in
         let limits : IsTrue (within (pos 0) horizon (number_at cumuls k)) = (and_parts _ _ (are.allowed k le)).0 in
-        subst (IsIn (pos 0) horizon) (get_or_default cumuls k (pos 0) other low) (record { at_least = grind (arith, ints, limits); at_most = grind (arith, ints, limits) })
+        subst (IsIn (pos 0) horizon) (get_or_default cumuls k (pos 0) other low)
+        (record { at_least = grind (arith, ints, limits); at_most = grind (arith, ints, limits) })

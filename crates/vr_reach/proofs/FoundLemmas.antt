@@ -1,5 +1,6 @@
 -- Cumuls that are found stop by stop: there are no others of this kind.
-use Rattle.std.proofs.Common.{◌≡◌, ◌∙◌, ℕ, zero, suc, ◌+◌, ◌<◌, ◌≤◌, ◌⊎◌, inl, inr, Bool, true, false, List, [], ◌∷◌, ◌++◌, length, ℤ, pos, ◌≤ℤ◌, ◌<ℤ◌, ◌+ℤ◌, refl, sym, subst, arith}
+use Rattle.std.proofs.Common.{◌≡◌, ◌∙◌, ℕ, zero, suc, ◌+◌, ◌<◌, ◌≤◌, ◌⊎◌, inl, inr, Bool, true, false, List, [], ◌∷◌, ◌++◌, length, ℤ, pos, ◌≤ℤ◌, ◌<ℤ◌, ◌+ℤ◌}
+use Rattle.std.proofs.Common.{refl, sym, subst, arith}
 use Rattle.std.specs.Prelude.{IsTrue, int_le, slice_index_or, ◌&&◌, ◌-ℤ◌}
 use Rattle.std.specs.Int.{int_max}
 use Rattle.std.proofs.lemmas.Bool.{and_parts, and_from}
@@ -72,7 +73,8 @@ module _ (line : Line) where
 
   -- one stop more
   module _ (k : ℕ) (cumuls : List ℤ) (are : AreFoundInTurn line k cumuls) (run : Run) (is : IsAllowedRun line (suc k) run) where
-    pub step_found : (next : ℤ) → IsEarliestBehind (number_at cumuls k) (arc_at line k).transit line.slack_max run next → AreFoundInTurn line (suc k) (cumuls ++ next ∷ [])
+    pub step_found : (next : ℤ) → IsEarliestBehind (number_at cumuls k) (arc_at line k).transit line.slack_max run next
+        → AreFoundInTurn line (suc k) (cumuls ++ next ∷ [])
     step_found next behind = record {
       many = let n = length-append cumuls (next ∷ []) in let m = are.many in omega (arith, n, m);
       start = subst (IsEarliestPassing (allows line 0)) (sym (old 0 (omega arith))) are.start;
@@ -80,11 +82,16 @@ module _ (line : Line) where
         | inl before ↦ subst (λ x. IsEarliestPassing (allows_from line i x) (number_at (cumuls ++ next ∷ []) (suc i))) (sym (old i (omega (arith, before))))
             (subst (IsEarliestPassing (allows_from line i (number_at cumuls i))) (sym (old (suc i) (omega (arith, before)))) (are.next i before))
         | inr new ↦ subst (λ j. IsEarliestPassing (allows_from line j (number_at (cumuls ++ next ∷ []) j)) (number_at (cumuls ++ next ∷ []) (suc j))) (sym new)
-            (subst (λ x. IsEarliestPassing (allows_from line k x) (number_at (cumuls ++ next ∷ []) (suc k))) (sym (old k (omega arith))) (subst (IsEarliestPassing (allows_from line k (number_at cumuls k))) (sym last) here))
+            (subst (λ x. IsEarliestPassing (allows_from line k x) (number_at (cumuls ++ next ∷ []) (suc k)))
+            (sym (old k (omega arith))) (subst (IsEarliestPassing (allows_from line k (number_at cumuls k))) (sym last) here))
       ];
       slacks = λ i less. elim (sooner i less) [
-        | inl before ↦ (let a = old i (omega (arith, before)) in let b = old (suc i) (omega (arith, before)) in let s = are.slacks i before in omega (arith, ints, a, b, s))
-        | inr new ↦ subst (λ j. slack_left line (cumuls ++ next ∷ []) j ≤ℤ line.slack_max) (sym new) (let a = old k (omega arith) in let most = behind.slack in omega (arith, ints, a, last, most))
+        | inl before ↦ (let a = old i (omega (arith, before)) in
+            let b = old (suc i) (omega (arith, before)) in
+            let s = are.slacks i before in
+            omega (arith, ints, a, b, s))
+        | inr new ↦ subst (λ j. slack_left line (cumuls ++ next ∷ []) j ≤ℤ line.slack_max) (sym new)
+            (let a = old k (omega arith) in let most = behind.slack in omega (arith, ints, a, last, most))
       ];
     }
       where
@@ -105,7 +112,8 @@ module _ (line : Line) where
 
         here : IsEarliestPassing (allows_from line k (number_at cumuls k)) next
         here = record {
-          passes = and_from (allows line (suc k) next) (int_le (number_at cumuls k +ℤ (arc_at line k).transit) next) (allowed_in line (suc k) run next is above behind.most) (let f = from in grind (arith, ints, f));
+          passes = and_from (allows line (suc k) next) (int_le (number_at cumuls k +ℤ (arc_at line k).transit) next)
+              (allowed_in line (suc k) run next is above behind.most) (let f = from in grind (arith, ints, f));
           least = λ y there.
               let parts = and_parts (allows line (suc k) y) (int_le (number_at cumuls k +ℤ (arc_at line k).transit) y) there in
               no_earlier y parts.0 parts.1;
@@ -124,10 +132,12 @@ module _ (line : Line) where
     same_found n others are_too (suc i) le le_too =
         let e = same_found n others are_too i (omega (arith, le)) (omega (arith, le_too)) in
         one_earliest (allows_from line i (number_at cumuls i)) (number_at others (suc i)) (number_at cumuls (suc i))
-        (subst (λ x. IsEarliestPassing (allows_from line i x) (number_at others (suc i))) e (are_too.next i (omega (arith, le_too)))) (are.next i (omega (arith, le)))
+        (subst (λ x. IsEarliestPassing (allows_from line i x) (number_at others (suc i))) e (are_too.next i (omega (arith, le_too))))
+        (are.next i (omega (arith, le)))
 
     -- where there is no cumul behind the arc, there are no others
-    pub none_found : has_cumul_behind (number_at cumuls k) (arc_at line k).transit line.slack_max run ≡ false → (n : ℕ) (others : List ℤ) → k < n → AreFoundInTurn line n others → ⊥
+    pub none_found : has_cumul_behind (number_at cumuls k) (arc_at line k).transit line.slack_max run ≡ false
+        → (n : ℕ) (others : List ℤ) → k < n → AreFoundInTurn line n others → ⊥
     none_found none n others low are_too =
         let y = number_at others (suc k) in
         let e = same_found n others are_too k (omega arith) (omega (arith, low)) in
@@ -135,19 +145,25 @@ module _ (line : Line) where
         let parts = and_parts (allows line (suc k) y) (int_le (number_at cumuls k +ℤ (arc_at line k).transit) y) there.passes in
         let slack = are_too.slacks k low in
         let late = parts.1 in
-        clash _ (some_behind (number_at cumuls k) (arc_at line k).transit line.slack_max run y (inside line (suc k) run y is parts.0) (grind (arith, ints, late)) (omega (arith, ints, slack, e))) none
+        clash _
+        (some_behind (number_at cumuls k) (arc_at line k).transit line.slack_max run y
+        (inside line (suc k) run y is parts.0) (grind (arith, ints, late)) (omega (arith, ints, slack, e))) none
 
 -- ---- along the line of a list
 
 module _ (model : Model) (d v : ℕ) (list : List ℕ) where
-  pub begin_found_list : (run : Run) → IsRunFor (allowed_by model d v Start) run → run.lo ≤ℤ run.hi → (cumuls : List ℤ) → cumuls ≡ run.lo ∷ [] → AreFoundInTurn (line model d v list) 0 cumuls
-  begin_found_list run is some cumuls are = subst (AreFoundInTurn (line model d v list) 0) (sym are) (begin_found (line model d v list) run (record { exact = is.exact; ends = is.ends }) some)
+  pub begin_found_list : (run : Run) → IsRunFor (allowed_by model d v Start) run → run.lo ≤ℤ run.hi
+      → (cumuls : List ℤ) → cumuls ≡ run.lo ∷ [] → AreFoundInTurn (line model d v list) 0 cumuls
+  begin_found_list run is some cumuls are =
+      subst (AreFoundInTurn (line model d v list) 0) (sym are) (begin_found (line model d v list) run (record { exact = is.exact; ends = is.ends }) some)
 
-  pub none_begun_list : (run : Run) → IsRunFor (allowed_by model d v Start) run → run.hi <ℤ run.lo → (n : ℕ) (others : List ℤ) → AreFoundInTurn (line model d v list) n others → ⊥
+  pub none_begun_list : (run : Run) → IsRunFor (allowed_by model d v Start) run → run.hi <ℤ run.lo
+      → (n : ℕ) (others : List ℤ) → AreFoundInTurn (line model d v list) n others → ⊥
   none_begun_list run is empty n others are = none_begun (line model d v list) run (record { exact = is.exact; ends = is.ends }) empty n others are
 
   -- behind the arc from stop k
-  module _ (k : ℕ) (cumuls : List ℤ) (le : k ≤ length list) (are : AreFoundInTurn (line model d v list) k cumuls) (run : Run) (allowed : IsAllowedRun (line model d v list) (k + 1) run)
+  module _ (k : ℕ) (cumuls : List ℤ) (le : k ≤ length list) (are : AreFoundInTurn (line model d v list) k cumuls)
+      (run : Run) (allowed : IsAllowedRun (line model d v list) (k + 1) run)
       (origin target : ℕ) (from : origin ≡ node_at_stop model v list k) (to : target ≡ node_at_stop model v list (k + 1))
       (cumul t s : ℤ) (cumul_is : cumul ≡ number_at cumuls k) (t_is : t ≡ transit model d v origin target) (s_is : s ≡ (dimension_at model d).slack_max) where
     next_stop : k + 1 ≡ suc k
@@ -164,7 +180,8 @@ module _ (model : Model) (d v : ℕ) (list : List ℕ) where
         let here = subst (λ x. IsEarliestBehind x t s run next) cumul_is behind in
         let there = subst (λ x. IsEarliestBehind (number_at cumuls k) x s run next) way here in
         let last = subst (λ x. IsEarliestBehind (number_at cumuls k) (arc_at (line model d v list) k).transit x run next) s_is there in
-        subst (λ i. AreFoundInTurn (line model d v list) i (cumuls ++ next ∷ [])) (sym next_stop) (step_found (line model d v list) k cumuls are run allowed_next next last)
+        subst (λ i. AreFoundInTurn (line model d v list) i (cumuls ++ next ∷ [])) (sym next_stop)
+        (step_found (line model d v list) k cumuls are run allowed_next next last)
 
     pub found_none : has_cumul_behind cumul t s run ≡ false → (others : List ℤ) → AreFoundInTurn (line model d v list) (suc (length list)) others → ⊥
     found_none none others are_too =

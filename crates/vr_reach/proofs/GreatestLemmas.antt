@@ -33,10 +33,14 @@ module _ (left right : List (List Run)) (n : ℕ) (both : List Run) (exact : (x 
   none-both : both ≡ [] → (x : ℤ) → IsTrue (has (level_at left n) x) → IsTrue (has (level_at right n) x) → ⊥
   none-both e x a b = let t = subst (λ l. IsTrue (has l x)) e (to-both x a b) in let f : false ≡ true → ⊥ = λ e. cc in f t
 
-  pub greatest_more : (best new : Option ℤ) → IsGreatestBelow left right n best → (IsNone new ↔ (both ≡ [])) → IfSome new (λ x. IsGreatest both x) → IsGreatestBelow left right (n + 1) (greater_of best new)
+  pub greatest_more : (best new : Option ℤ) → IsGreatestBelow left right n best → (IsNone new ↔ (both ≡ []))
+      → IfSome new (λ x. IsGreatest both x) → IsGreatestBelow left right (n + 1) (greater_of best new)
   greatest_more best new before none some =
-      first_more left right n (λ x y. y ≤ℤ x) int_max greater_one (λ x z y le. omega (arith, ints, clamps, le)) (λ x z y le. omega (arith, ints, clamps, le)) best new before
-      (λ is. none-both (none.0 is)) (IfSome_then new some (λ x is. let p = of-both x is.among in (p.0, p.1, λ y here there. is.greatest y (to-both y here there))))
+      first_more left right n (λ x y. y ≤ℤ x) int_max greater_one (λ x z y le. omega (arith, ints, clamps, le))
+      (λ x z y le. omega (arith, ints, clamps, le)) best new before
+      (λ is. none-both (none.0 is))
+      (IfSome_then new some (λ x is. let p = of-both x is.among in (p.0, p.1, λ y here there. is.greatest y (to-both y here there))))
 
-pub greatest_some : (left right : List (List Run)) (best : Option ℤ) → IfSome best (λ x. SharedAt left right x × ((y : ℤ) → SharedAt left right y → y ≤ℤ x)) → IfSome best (IsGreatestShared left right)
+pub greatest_some : (left right : List (List Run)) (best : Option ℤ)
+    → IfSome best (λ x. SharedAt left right x × ((y : ℤ) → SharedAt left right y → y ≤ℤ x)) → IfSome best (IsGreatestShared left right)
 greatest_some left right best found = IfSome_then best found (λ x is. record { shared = is.0; greatest = is.1 })

@@ -23,7 +23,8 @@ abbrev without : Plan → Plan
 without plan = record { cumuls = plan.cumuls; slacks = plan.slacks; breaks = [] }
 
 -- a schedule with breaks is one without them
-unbroken : (where_else : Sides) (allowed : List (ℤ → Bool)) (arcs : List Arc) (slack : ℤ) (rows : List BreakRow) (plan : Plan) → KeepsRules where_else (with_breaks allowed arcs slack rows) plan → KeepsRules where_else (with_breaks allowed arcs slack []) (without plan)
+unbroken : (where_else : Sides) (allowed : List (ℤ → Bool)) (arcs : List Arc) (slack : ℤ) (rows : List BreakRow) (plan : Plan)
+    → KeepsRules where_else (with_breaks allowed arcs slack rows) plan → KeepsRules where_else (with_breaks allowed arcs slack []) (without plan)
 unbroken where_else allowed arcs slack rows plan m = record {
   cumul_of_each_stop = m.cumul_of_each_stop;
   slack_of_each_arc = m.slack_of_each_arc;
@@ -43,11 +44,13 @@ none_taken L k b x (plan, rules, is) = (without plan, unbroken before_only _ _ _
 all_taken : (L : Line) (k b : ℕ) (x : ℤ) → ReachesEnd L k b x → ReachesEnd L k (length L.breaks) x
 all_taken L k b x (plan, rules, is) = (
   without plan,
-  subst (λ rows. KeepsRules after_only (with_breaks (drop k L.allowed) (drop k L.arcs) L.slack_max rows) (without plan)) (sym (drop_all (length L.breaks) L.breaks (omega arith))) (unbroken after_only _ _ _ _ plan rules),
+  subst (λ rows. KeepsRules after_only (with_breaks (drop k L.allowed) (drop k L.arcs) L.slack_max rows) (without plan))
+      (sym (drop_all (length L.breaks) L.breaks (omega arith))) (unbroken after_only _ _ _ _ plan rules),
   is,
 )
 
-module _ (meet : FeasibleWhereLevelsMeet) (L : Line) (sound : IsSound L) (k : ℕ) (le : k ≤ length L.arcs) (to : List (List Run)) (are : AreReachingEnd L k to) where
+module _ (meet : FeasibleWhereLevelsMeet) (L : Line) (sound : IsSound L) (k : ℕ)
+    (le : k ≤ length L.arcs) (to : List (List Run)) (are : AreReachingEnd L k to) where
   -- what is reached with no break taken misses what is left with all taken
   pub refused : (run : Run) → IsReachedRun L k 0 run → (ShareANumber (run ∷ []) (level_at to (length L.breaks)) → ⊥) → IsFeasible L → ⊥
   refused run is apart feasible =
@@ -71,11 +74,13 @@ in_order m (r ∷ rs) zero d normal low = normal.1
 in_order m (r ∷ rs) (suc k) d normal low = in_order (r.hi +ℤ pos 2) rs k d normal.3 (omega (arith, low))
 
 -- what a run shares with one of a set, it shares with the set
-pub shared_with_one : (run : Run) (set : List Run) (k : ℕ) (d : Run) → k < length set → ShareANumber (run ∷ []) (get_or set k d ∷ []) → ShareANumber (run ∷ []) set
+pub shared_with_one : (run : Run) (set : List Run) (k : ℕ) (d : Run) → k < length set
+    → ShareANumber (run ∷ []) (get_or set k d ∷ []) → ShareANumber (run ∷ []) set
 shared_with_one run set k d low (x, first, second) = (x, first, run_first set k d low x (alone_in (get_or set k d) x second))
 
 -- a run shares a number with what is left of a set, behind a run with which it shares none
-pub shared_behind : (run : Run) (set : List Run) (k : ℕ) (d : Run) → k < length set → (ShareANumber (run ∷ []) (get_or set k d ∷ []) → ⊥) → ShareANumber (run ∷ []) (drop k set) → ShareANumber (run ∷ []) (drop (k + 1) set)
+pub shared_behind : (run : Run) (set : List Run) (k : ℕ) (d : Run) → k < length set → (ShareANumber (run ∷ []) (get_or set k d ∷ []) → ⊥)
+    → ShareANumber (run ∷ []) (drop k set) → ShareANumber (run ∷ []) (drop (k + 1) set)
 shared_behind run set k d low apart (x, first, second) =
     let other = get_or set k d in
     let here = subst (λ rs. IsTrue (has rs x)) (drop_more set k d low) second in

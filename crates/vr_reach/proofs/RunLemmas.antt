@@ -1,5 +1,6 @@
 -- The runs of sets of no more than one.
-use Rattle.std.proofs.Common.{◌≡◌, ◌∙◌, ℕ, suc, ◌+◌, ◌<◌, ◌≤◌, Bool, true, false, List, [], ◌∷◌, ◌++◌, length, take, get_or, Option, Some, None, ℤ, pos, ◌≤ℤ◌, refl, ap, ap₂, sym, subst, arith}
+use Rattle.std.proofs.Common.{◌≡◌, ◌∙◌, ℕ, suc, ◌+◌, ◌<◌, ◌≤◌, Bool, true, false, List, [], ◌∷◌, ◌++◌, length, take, get_or, Option, Some, None, ℤ, pos, ◌≤ℤ◌}
+use Rattle.std.proofs.Common.{refl, ap, ap₂, sym, subst, arith}
 use Rattle.std.specs.Prelude.{IfSome, slice_get, is_some, nat_le, not, filter, cond, ◌&&◌, ◌||◌}
 use Rattle.std.specs.List.{list_all, range_with_len}
 use Rattle.std.proofs.lemmas.Bool.{false≢true}
@@ -73,32 +74,45 @@ no_run [] run none lo hi = record {
 no_run (r ∷ rs) run none lo hi = absurd (omega (arith, none))
 
 -- the run of one set more
-pub run_more : (sets : List (List Run)) (runs : List Run) (k : ℕ) (run : Run) → length runs ≡ k → ((j : ℕ) (other : Run) → j < length runs → IsRunOf (get_or sets j []) (get_or runs j other)) → IsRunOf (get_or sets k []) run
+pub run_more : (sets : List (List Run)) (runs : List Run) (k : ℕ) (run : Run) → length runs ≡ k
+    → ((j : ℕ) (other : Run) → j < length runs → IsRunOf (get_or sets j []) (get_or runs j other)) → IsRunOf (get_or sets k []) run
     → (j : ℕ) (other : Run) → j < length (runs ++ run ∷ []) → IsRunOf (get_or sets j []) (get_or (runs ++ run ∷ []) j other)
-run_more sets runs k run long each is = each_push (λ j r. IsRunOf (get_or sets j []) r) runs run each (subst (λ j. IsRunOf (get_or sets j []) run) (sym long) is)
+run_more sets runs k run long each is =
+    each_push (λ j r. IsRunOf (get_or sets j []) r) runs run each (subst (λ j. IsRunOf (get_or sets j []) run) (sym long) is)
 
 -- the runs of one table more
-pub table_more : (tables : List (List (List Run))) (found : List (Option (List Run))) (k : ℕ) (new : Option (List Run)) → length found ≡ k → ((j : ℕ) (other : Option (List Run)) → j < length found → AreKnownRuns (get_or tables j []) (get_or found j other)) → AreKnownRuns (get_or tables k []) new
+pub table_more : (tables : List (List (List Run))) (found : List (Option (List Run))) (k : ℕ) (new : Option (List Run))
+    → length found ≡ k → ((j : ℕ) (other : Option (List Run)) → j < length found → AreKnownRuns (get_or tables j []) (get_or found j other))
+    → AreKnownRuns (get_or tables k []) new
     → (j : ℕ) (other : Option (List Run)) → j < length (found ++ new ∷ []) → AreKnownRuns (get_or tables j []) (get_or (found ++ new ∷ []) j other)
-table_more tables found k new long each is = each_push (λ j r. AreKnownRuns (get_or tables j []) r) found new each (subst (λ j. AreKnownRuns (get_or tables j []) new) (sym long) is)
+table_more tables found k new long each is =
+    each_push (λ j r. AreKnownRuns (get_or tables j []) r) found new each (subst (λ j. AreKnownRuns (get_or tables j []) new) (sym long) is)
 
 -- the runs of what visits allow a vehicle
-pub visit_runs : (model : Model) (d v : ℕ) (sets : List (List Run)) (runs : List Run) → AreVisitSets model d v sets → AreRunsOfSets sets runs → AreVisitRuns model d v runs
+pub visit_runs : (model : Model) (d v : ℕ) (sets : List (List Run)) (runs : List Run)
+    → AreVisitSets model d v sets → AreRunsOfSets sets runs → AreVisitRuns model d v runs
 visit_runs model d v sets runs are of = record {
   long = of.one_of_each ∙ are.long;
-  each = λ node other low visit. finish_is _ (get_or sets node []) (get_or runs node other) ((are.each node).visit visit) (of.each node other (let n = of.one_of_each in omega (arith, n, low)));
+  each = λ node other low visit. finish_is _ (get_or sets node []) (get_or runs node other)
+      ((are.each node).visit visit) (of.each node other (let n = of.one_of_each in omega (arith, n, low)));
 }
 
 -- the runs of the table of a vehicle
-pub runs_here : (model : Model) (d v k : ℕ) (stops : Stops) → AreStops model d stops → IsTableOf model d v stops.visits.capacities k → (runs : List Run) → get_or stops.runs k None ≡ Some runs → AreVisitRuns model d v runs
+pub runs_here : (model : Model) (d v k : ℕ) (stops : Stops) → AreStops model d stops → IsTableOf model d v stops.visits.capacities k
+    → (runs : List Run) → get_or stops.runs k None ≡ Some runs → AreVisitRuns model d v runs
 runs_here model d v k stops are is runs found =
     let sets = stops.visits in
     let low : k < length sets.tables = (let same = are.visits.tables.one_of_each in let there = is.there in omega (arith, same, there)) in
-    visit_runs model d v (get_or sets.tables k []) runs (table_here model d v k sets are.visits.tables is) (subst (λ some. IfSome some (AreRunsOfSets (get_or sets.tables k []))) found (are.runs.each k low).runs)
+    visit_runs model d v (get_or sets.tables k []) runs (table_here model d v k sets are.visits.tables is)
+    (subst (λ some. IfSome some (AreRunsOfSets (get_or sets.tables k []))) found (are.runs.each k low).runs)
 
 -- there are its runs, or it is known that some set is of more than one
-pub runs_there : (model : Model) (d v : ℕ) (stops : Stops) → AreStops model d stops → v < length model.vehicles → get_or stops.visits.table_of v 0 < length stops.runs
-runs_there model d v stops are low = let there = table_there model d v stops.visits are.visits low in let same = are.runs.one_of_each in omega (arith, there, same)
+pub runs_there : (model : Model) (d v : ℕ) (stops : Stops) → AreStops model d stops
+    → v < length model.vehicles → get_or stops.visits.table_of v 0 < length stops.runs
+runs_there model d v stops are low =
+    let there = table_there model d v stops.visits are.visits low in
+    let same = are.runs.one_of_each in
+    omega (arith, there, same)
 
 -- the same for one of the vehicles
 pub runs_for : {stops : StopsFor} → AreStopsFor stops → get_or stops.of_dimension.now.visits.table_of stops.v 0 < length stops.of_dimension.now.runs
@@ -138,12 +152,15 @@ pub not_single : (n : ℕ) → 1 < n → nat_le n 1 ≡ false
 not_single n many = Prim.grind (arith, many)
 
 -- one set more is
-pub singles_more : (sets : List (List Run)) (k : ℕ) (set : List Run) → k < length sets → get_or sets k [] ≡ set → list_all is_single (take k sets) ≡ true → is_single set ≡ true → list_all is_single (take (k + 1) sets) ≡ true
+pub singles_more : (sets : List (List Run)) (k : ℕ) (set : List Run) → k < length sets → get_or sets k [] ≡ set
+    → list_all is_single (take k sets) ≡ true → is_single set ≡ true → list_all is_single (take (k + 1) sets) ≡ true
 singles_more sets k set low is before here = list_all_more is_single sets k [] low ∙ ap₂ (λ a b. a && b) before (ap is_single is ∙ here)
 
 -- one set is not
-pub singles_stop : (sets : List (List Run)) (k : ℕ) (set : List Run) → k < length sets → get_or sets k [] ≡ set → is_single set ≡ false → list_all is_single sets ≡ false
-singles_stop sets k set low is here = fails (list_all is_single sets) (λ all. clash (is_single set) (ap is_single (sym is) ∙ all-from_list_all is_single sets all k [] low) here)
+pub singles_stop : (sets : List (List Run)) (k : ℕ) (set : List Run) → k < length sets
+    → get_or sets k [] ≡ set → is_single set ≡ false → list_all is_single sets ≡ false
+singles_stop sets k set low is here =
+    fails (list_all is_single sets) (λ all. clash (is_single set) (ap is_single (sym is) ∙ all-from_list_all is_single sets all k [] low) here)
 
 -- all are
 pub singles_end : (sets : List (List Run)) (k : ℕ) → length sets ≤ k → list_all is_single (take k sets) ≡ true → list_all is_single sets ≡ true
@@ -160,19 +177,24 @@ split true q x rest = refl
 split false q x rest = refl
 
 -- a test of all sets is one of those that are picked, where all others pass
-among : (p : List Run → Bool) (r q : ℕ → Bool) (sets : List (List Run)) (a : ℕ) → ((k : ℕ) → k < length sets → p (get_or sets k []) ≡ (not (r (a + k)) || q (a + k))) → list_all p sets ≡ list_all q (filter r (range_with_len a (length sets)))
+among : (p : List Run → Bool) (r q : ℕ → Bool) (sets : List (List Run)) (a : ℕ)
+    → ((k : ℕ) → k < length sets → p (get_or sets k []) ≡ (not (r (a + k)) || q (a + k)))
+    → list_all p sets ≡ list_all q (filter r (range_with_len a (length sets)))
 among p r q [] a each = refl
 among p r q (set ∷ sets) a each =
     let here : a + 0 ≡ a = omega arith in
     let first : p set ≡ (not (r a) || q a) = each 0 (omega arith) ∙ ap (λ k. not (r k) || q k) here in
-    let rest = among p r q sets (a + 1) (λ k low. let next : a + suc k ≡ a + 1 + k = omega arith in each (suc k) (omega (arith, low)) ∙ ap (λ i. not (r i) || q i) next) in
+    let rest = among p r q sets (a + 1)
+    (λ k low. let next : a + suc k ≡ a + 1 + k = omega arith in each (suc k) (omega (arith, low)) ∙ ap (λ i. not (r i) || q i) next) in
     ap₂ (λ x y. x && y) first rest ∙ sym (split (r a) q a (filter r (range_with_len (a + 1) (length sets))))
 
 -- the sets of the visits are exactly where no visit allows more than one run
-pub visits_counted : RunsAreCounted → (model : Model) (d v : ℕ) (sets : List (List Run)) → AreVisitSets model d v sets → list_all is_single sets ≡ have_visits_one_run model d v
+pub visits_counted : RunsAreCounted → (model : Model) (d v : ℕ) (sets : List (List Run))
+    → AreVisitSets model d v sets → list_all is_single sets ≡ have_visits_one_run model d v
 visits_counted counted model d v sets are =
     let one : ℕ → Bool = λ node. is_one_run (allowed_by model d v (Visit node)) in
-    among is_single (is_visit model) one sets 0 (λ node low. let same : 0 + node ≡ node = omega arith in at node ∙ ap (λ k. not (is_visit model k) || one k) (sym same))
+    among is_single (is_visit model) one sets 0
+    (λ node low. let same : 0 + node ≡ node = omega arith in at node ∙ ap (λ k. not (is_visit model k) || one k) (sym same))
     ∙ ap (λ n. list_all one (filter (is_visit model) (below n))) are.long
   where
     here : (node : ℕ) (b : Bool) → is_visit model node ≡ b → is_single (get_or sets node []) ≡ (not b || is_one_run (allowed_by model d v (Visit node)))
@@ -183,7 +205,8 @@ visits_counted counted model d v sets are =
     at node = here node (is_visit model node) refl
 
 -- the runs of the table of a vehicle are known exactly then
-pub known_here : RunsAreCounted → (model : Model) (d v k : ℕ) (stops : Stops) → AreStops model d stops → IsTableOf model d v stops.visits.capacities k → is_some (get_or stops.runs k None) ≡ have_visits_one_run model d v
+pub known_here : RunsAreCounted → (model : Model) (d v k : ℕ) (stops : Stops) → AreStops model d stops
+    → IsTableOf model d v stops.visits.capacities k → is_some (get_or stops.runs k None) ≡ have_visits_one_run model d v
 known_here counted model d v k stops are is =
     let sets = stops.visits in
     let low : k < length sets.tables = (let same = are.visits.tables.one_of_each in let there = is.there in omega (arith, same, there)) in

@@ -1,6 +1,7 @@
 -- Lists that keep the front and the end of others.
 use Rattle.std.proofs.Common.{◌≡◌, ℕ, ◌+◌, ◌-◌, ◌<◌, ◌≤◌, List, ◌++◌, length, get_or, take, drop, refl, sym, ap, ap₂, ◌∙◌, arith}
-use Rattle.std.proofs.lemmas.List.{append-nil, drop_all, drop-drop, length-append, length-drop, length-take-le, get_or_append_left, get_or-append_right, get_or-take, get_or-drop}
+use Rattle.std.proofs.lemmas.List.{append-nil, drop_all, drop-drop, length-append, length-drop, length-take-le, get_or_append_left, get_or-append_right}
+use Rattle.std.proofs.lemmas.List.{get_or-take, get_or-drop}
 use Rattle.std.proofs.Math.Seq.{take-append_seam, drop-append_seam, drop-append-add}
 use Rattle.vr_reach.specs.Spliced.{spliced, AreSeams}
 use Rattle.vr_reach.specs.Stretches.{SharesFront, SharesBack}
@@ -23,7 +24,8 @@ module _ (old middle : List ℕ) (front behind : ℕ) (seams : AreSeams (length 
       get_or-append_right (take front old) (middle ++ drop behind old) front k 0 kept_front past
       ∙ get_or_append_left middle (drop behind old) 0 (k - front) low
 
-  pub at_back : (k : ℕ) → front ≤ k → length middle ≤ k - front → get_or (spliced old front behind middle) k 0 ≡ get_or old (k - front - length middle + behind) 0
+  pub at_back : (k : ℕ) → front ≤ k → length middle ≤ k - front
+      → get_or (spliced old front behind middle) k 0 ≡ get_or old (k - front - length middle + behind) 0
   at_back k past later =
       let i : behind + (k - front - length middle) ≡ k - front - length middle + behind = omega arith in
       get_or-append_right (take front old) (middle ++ drop behind old) front k 0 kept_front past

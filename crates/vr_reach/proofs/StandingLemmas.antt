@@ -24,7 +24,8 @@ use Rattle.vr_reach.proofs.LineParts.{sound_line}
 use Rattle.vr_reach.proofs.Transfer.{reached_too}
 
 -- a list that shares the nodes up to a stop reaches the same there
-pub reached_in : (model : Model) (d v : ℕ) (old new : List ℕ) (k : ℕ) (levels : List (List Run)) → SharesFront old new k → IsReachedAt model d v old k levels → IsReachedAt model d v new k levels
+pub reached_in : (model : Model) (d v : ℕ) (old new : List ℕ) (k : ℕ) (levels : List (List Run))
+    → SharesFront old new k → IsReachedAt model d v old k levels → IsReachedAt model d v new k levels
 reached_in model d v old new k levels shares is = record { form = is.form; reached = reached_too model d v old new k shares levels is.reached }
 
 -- ---- levels without a number
@@ -44,7 +45,8 @@ module _ (levels : List (List Run)) (b : ℕ) (set : List Run) (low : b < length
 
   -- one level has some
   pub stuck_stops : 0 < length set → is_stuck levels ≡ false
-  stuck_stops some = fails (is_stuck levels) (λ all. clash (is_empty set) (ap is_empty (sym is) ∙ all-from_list_all is_empty levels all b [] low) (filled set some))
+  stuck_stops some =
+      fails (is_stuck levels) (λ all. clash (is_empty set) (ap is_empty (sym is) ∙ all-from_list_all is_empty levels all b [] low) (filled set some))
 
 -- no level has
 pub stuck_ends : (levels : List (List Run)) (b : ℕ) → length levels ≤ b → list_all is_empty (take b levels) ≡ true → is_stuck levels ≡ true

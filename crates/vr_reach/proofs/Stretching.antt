@@ -1,5 +1,6 @@
 -- How many nodes two lists share.
-use Rattle.std.proofs.Common.{◌≡◌, ◌≢◌, ℕ, zero, suc, ◌+◌, ◌-◌, ◌<◌, ◌≤◌, ◌⊎◌, inl, inr, false, cond, List, [], ◌∷◌, length, reverse, get_or, take, refl, sym, ap, ap₂, subst, ◌∙◌, arith}
+use Rattle.std.proofs.Common.{◌≡◌, ◌≢◌, ℕ, zero, suc, ◌+◌, ◌-◌, ◌<◌, ◌≤◌, ◌⊎◌, inl, inr, false, cond, List, [], ◌∷◌, length, reverse, get_or, take, refl, sym}
+use Rattle.std.proofs.Common.{ap, ap₂, subst, ◌∙◌, arith}
 use Rattle.std.specs.Prelude.{IsTrue, ◌==◌, not, ◌||◌}
 use Rattle.std.proofs.lemmas.Bool.{and_parts, cases_lt}
 use Rattle.std.proofs.lemmas.List.{get_or-reverse, get_or-drop, length-reverse}
@@ -15,15 +16,18 @@ use Rattle.vr_reach.specs.Stretches.{SharesFront, IsStretchBetween}
 use Rattle.vr_reach.specs.Tries.{list_tries, tries_between}
 
 -- nodes are shared up to the first that differ
-prefix_is : (xs ys : List ℕ) (a : ℕ) → a ≤ length xs → a ≤ length ys → ((j : ℕ) → j < a → get_or xs j 0 ≡ get_or ys j 0) → (a < length xs → a < length ys → get_or xs a 0 ≢ get_or ys a 0) → shared_front xs ys ≡ a
+prefix_is : (xs ys : List ℕ) (a : ℕ) → a ≤ length xs → a ≤ length ys → ((j : ℕ) → j < a → get_or xs j 0 ≡ get_or ys j 0)
+    → (a < length xs → a < length ys → get_or xs a 0 ≢ get_or ys a 0) → shared_front xs ys ≡ a
 prefix_is [] ys zero le le_too same other = refl
 prefix_is [] ys (suc a) le le_too same other = absurd (omega (arith, le))
 prefix_is (x ∷ xs) [] zero le le_too same other = refl
 prefix_is (x ∷ xs) [] (suc a) le le_too same other = absurd (omega (arith, le_too))
-prefix_is (x ∷ xs) (y ∷ ys) zero le le_too same other = ap (λ b. cond b (1 + shared_front xs ys) 0) (fails (x == y) (λ t. other (omega arith) (omega arith) (eq_of_test x y t)))
+prefix_is (x ∷ xs) (y ∷ ys) zero le le_too same other =
+    ap (λ b. cond b (1 + shared_front xs ys) 0) (fails (x == y) (λ t. other (omega arith) (omega arith) (eq_of_test x y t)))
 prefix_is (x ∷ xs) (y ∷ ys) (suc a) le le_too same other =
     ap (λ b. cond b (1 + shared_front xs ys) 0) (test_of_eq x y (same 0 (omega arith)))
-    ∙ (let e = prefix_is xs ys a (omega (arith, le)) (omega (arith, le_too)) (λ j low. same (suc j) (omega (arith, low))) (λ l m. other (omega (arith, l)) (omega (arith, m))) in omega (arith, e))
+    ∙ (let e = prefix_is xs ys a (omega (arith, le)) (omega (arith, le_too)) (λ j low. same (suc j) (omega (arith, low)))
+    (λ l m. other (omega (arith, l)) (omega (arith, m))) in omega (arith, e))
 
 held_at : (xs : List ℕ) (j : ℕ) → j < length xs → IsTrue (holds xs (get_or xs j 0))
 held_at [] j low = absurd (omega (arith, low))
@@ -52,7 +56,8 @@ read_taken xs ys a j same le le_too low = sym (of xs a j low le) ∙ (ap (λ l. 
 
 module _ (old new : List ℕ) (stretch : Stretch) (is : IsStretchBetween old new stretch) where
   pub front_is : shared_front old new ≡ stretch.front
-  front_is = prefix_is old new stretch.front is.front.within_old is.front.within_new (λ j low. read_taken old new stretch.front j is.front.same is.front.within_old is.front.within_new low) is.front_most
+  front_is = prefix_is old new stretch.front is.front.within_old is.front.within_new
+      (λ j low. read_taken old new stretch.front j is.front.same is.front.within_old is.front.within_new low) is.front_most
 
   at_back : (j : ℕ) → j < stretch.back → get_or old (length old - 1 - j) 0 ≡ get_or new (length new - 1 - j) 0
   at_back j low =
@@ -61,11 +66,15 @@ module _ (old new : List ℕ) (stretch : Stretch) (is : IsStretchBetween old new
       let le_too = is.back.within_new in
       let i : length old - z + (z - 1 - j) ≡ length old - 1 - j = omega (arith, low, le) in
       let k : length new - z + (z - 1 - j) ≡ length new - 1 - j = omega (arith, low, le_too) in
-      ap (λ n. get_or old n 0) (sym i) ∙ (sym (get_or-drop (length old - z) old (z - 1 - j) 0) ∙ (ap (λ l. get_or l (z - 1 - j) 0) is.back.same ∙ (get_or-drop (length new - z) new (z - 1 - j) 0 ∙ ap (λ n. get_or new n 0) k)))
+      ap (λ n. get_or old n 0) (sym i)
+      ∙ (sym (get_or-drop (length old - z) old (z - 1 - j) 0)
+      ∙ (ap (λ l. get_or l (z - 1 - j) 0) is.back.same ∙ (get_or-drop (length new - z) new (z - 1 - j) 0 ∙ ap (λ n. get_or new n 0) k)))
 
-  module _ (distinct : IsTrue (is_distinct old)) (distinct_too : IsTrue (is_distinct new)) (changed : stretch.front < length old ⊎ stretch.front < length new) where
+  module _ (distinct : IsTrue (is_distinct old)) (distinct_too : IsTrue (is_distinct new))
+      (changed : stretch.front < length old ⊎ stretch.front < length new) where
     -- where nothing is left of one of the lists, the other goes on with a node that it had before
-    no_more : stretch.back < length old → stretch.back < length new → get_or old (length old - 1 - stretch.back) 0 ≢ get_or new (length new - 1 - stretch.back) 0
+    no_more : stretch.back < length old → stretch.back < length new
+        → get_or old (length old - 1 - stretch.back) 0 ≢ get_or new (length new - 1 - stretch.back) 0
     no_more l m e = by (cases_lt (stretch.front + stretch.back) (length old)) (cases_lt (stretch.front + stretch.back) (length new))
       where
         a : ℕ
@@ -100,11 +109,13 @@ module _ (old new : List ℕ) (stretch : Stretch) (is : IsStretchBetween old new
           | inl low ↦ (
               let here : n - 1 - (z - 1) ≡ a = omega (arith, done, low) in
               let there : k - 1 - (z - 1) ≡ a = omega (arith, done, done_too, low) in
-              is.front_most low (omega (arith, done, done_too, low)) (ap (λ j. get_or old j 0) (sym here) ∙ (at_back (z - 1) (omega (arith, done, low)) ∙ ap (λ j. get_or new j 0) there)))
+              is.front_most low (omega (arith, done, done_too, low))
+              (ap (λ j. get_or old j 0) (sym here) ∙ (at_back (z - 1) (omega (arith, done, low)) ∙ ap (λ j. get_or new j 0) there)))
           | inr low ↦ (
               let here : n - 1 - (z - 1) ≡ a = omega (arith, done, done_too, low) in
               let there : k - 1 - (z - 1) ≡ a = omega (arith, done_too, low) in
-              is.front_most (omega (arith, done, done_too, low)) low (ap (λ j. get_or old j 0) (sym here) ∙ (at_back (z - 1) (omega (arith, done_too, low)) ∙ ap (λ j. get_or new j 0) there)))
+              is.front_most (omega (arith, done, done_too, low)) low
+              (ap (λ j. get_or old j 0) (sym here) ∙ (at_back (z - 1) (omega (arith, done_too, low)) ∙ ap (λ j. get_or new j 0) there)))
         ]
 
         by : a + z < n ⊎ n ≤ a + z → a + z < k ⊎ k ≤ a + z → ⊥
@@ -132,7 +143,8 @@ same_of_test (x ∷ xs) [] t = absurd (clash false t refl)
 same_of_test (x ∷ xs) (y ∷ ys) t = let parts = and_parts (x == y) (is_same xs ys) t in ap₂ (λ n l. n ∷ l) (eq_of_test x y parts.0) (same_of_test xs ys parts.1)
 
 -- one of the lists goes on behind what both share at the front
-pub goes_on : (old new : List ℕ) (a : ℕ) → SharesFront old new a → ((a ≡ length old) × (a ≡ length new → ⊥)) ⊎ (a ≡ length old → ⊥) → a < length old ⊎ a < length new
+pub goes_on : (old new : List ℕ) (a : ℕ) → SharesFront old new a
+    → ((a ≡ length old) × (a ≡ length new → ⊥)) ⊎ (a ≡ length old → ⊥) → a < length old ⊎ a < length new
 goes_on old new a shares (inl m) = inr (let le = shares.within_new in let h = m.1 in less a (length new) le h)
   where
     less : (m n : ℕ) → m ≤ n → (m ≡ n → ⊥) → m < n
@@ -143,8 +155,10 @@ goes_on old new a shares (inr other) = inl (let le = shares.within_old in less a
     less m n le other = grind arith
 
 -- what is told of a list that changed, by where it leaves the one before and meets it again, is told of its stretch
-changed_is : (told : ℕ → ℕ → ℕ) (model : Model) (old new : List ℕ) (stretch : Stretch) → IsStretchBetween old new stretch → is_empty new ≡ false → IsTour model old → IsTour model new → stretch.front < length old ⊎ stretch.front < length new
-    → cond (is_empty new || is_same old new) 0 (told (shared_front old new) (length new + 1 - shared_back old new)) ≡ told stretch.front (length new - stretch.back + 1)
+changed_is : (told : ℕ → ℕ → ℕ) (model : Model) (old new : List ℕ) (stretch : Stretch) → IsStretchBetween old new stretch
+    → is_empty new ≡ false → IsTour model old → IsTour model new → stretch.front < length old ⊎ stretch.front < length new
+    → cond (is_empty new || is_same old new) 0 (told (shared_front old new) (length new + 1 - shared_back old new))
+    ≡ told stretch.front (length new - stretch.back + 1)
 changed_is told model old new stretch is some tour tour_too changed =
     let differ : is_same old new ≡ false = fails (is_same old new) (λ t. same_lists (same_of_test old new t)) in
     let front = front_is old new stretch is in
@@ -160,11 +174,13 @@ changed_is told model old new stretch is some tour tour_too changed =
     ]
 
 -- the weight of a list that changed is that of the walk through its stretch
-pub weight_is : (model : Model) (d v : ℕ) (old new : List ℕ) (stretch : Stretch) → IsStretchBetween old new stretch → is_empty new ≡ false → IsTour model old → IsTour model new → stretch.front < length old ⊎ stretch.front < length new
+pub weight_is : (model : Model) (d v : ℕ) (old new : List ℕ) (stretch : Stretch) → IsStretchBetween old new stretch
+    → is_empty new ≡ false → IsTour model old → IsTour model new → stretch.front < length old ⊎ stretch.front < length new
     → list_weight model d v old new ≡ walk_weight (line model d v new) stretch.front (length new - stretch.back + 1)
 weight_is model d v old new = changed_is (walk_weight (line model d v new)) model old new
 
 -- and walks without a break go through its stretch
-pub tries_are : (model : Model) (d v : ℕ) (old new : List ℕ) (stretch : Stretch) → IsStretchBetween old new stretch → is_empty new ≡ false → IsTour model old → IsTour model new → stretch.front < length old ⊎ stretch.front < length new
+pub tries_are : (model : Model) (d v : ℕ) (old new : List ℕ) (stretch : Stretch) → IsStretchBetween old new stretch
+    → is_empty new ≡ false → IsTour model old → IsTour model new → stretch.front < length old ⊎ stretch.front < length new
     → list_tries model d v old new ≡ tries_between (line model d v new) stretch.front (length new - stretch.back + 1)
 tries_are model d v old new = changed_is (tries_between (line model d v new)) model old new

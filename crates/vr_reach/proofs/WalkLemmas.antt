@@ -12,7 +12,8 @@ use Rattle.vr_steps.specs.Reached.{FeasibleAtEnd}
 use Rattle.vr_reach.specs.Walks.{Meets, EndsAt}
 
 -- the line is feasible exactly where both levels share a cumul
-pub feasible_where_met : FeasibleWhereShared → (line : Line) (k : ℕ) (ahead behind : List (List Run)) → Meets line k ahead behind → ((x : ℤ) × SharedAt ahead behind x) ↔ IsFeasible line
+pub feasible_where_met : FeasibleWhereShared → (line : Line) (k : ℕ) (ahead behind : List (List Run))
+    → Meets line k ahead behind → ((x : ℤ) × SharedAt ahead behind x) ↔ IsFeasible line
 feasible_where_met law line k ahead behind meets =
     let long = meets.ahead_form.one_more in
     let long_too = meets.behind_form.one_more in
@@ -22,7 +23,8 @@ feasible_where_met law line k ahead behind meets =
     )
 
 -- the line is feasible exactly where the other breaks can be taken at its end
-pub feasible_where_ended : FeasibleAtEnd → (line : Line) (breaks : List BreakRow) (levels : List (List Run)) → EndsAt line breaks levels → CanEnd levels breaks ↔ IsFeasible line
+pub feasible_where_ended : FeasibleAtEnd → (line : Line) (breaks : List BreakRow) (levels : List (List Run))
+    → EndsAt line breaks levels → CanEnd levels breaks ↔ IsFeasible line
 feasible_where_ended law line breaks levels ends =
     let there = law line ends.sound levels ends.reached in
     let same : CanEnd levels line.breaks ≡ CanEnd levels breaks = ap (CanEnd levels) ends.breaks_are in

@@ -23,22 +23,26 @@ list_any_same p q h [] = refl
 list_any_same p q h (x ∷ xs) = ap₂ (λ a b. a || b) (h x) (list_any_same p q h xs)
 
 -- no two keys are the same, by a test `same` of two keys
-module _ {K : Type 0} (same : K → K → Bool) (distinct : List K → Bool) (none : distinct [] ≡ true) (more : (x : K) (xs : List K) → distinct (x ∷ xs) ≡ (not (list_any (same x) xs) && distinct xs)) where
+module _ {K : Type 0} (same : K → K → Bool) (distinct : List K → Bool) (none : distinct [] ≡ true)
+    (more : (x : K) (xs : List K) → distinct (x ∷ xs) ≡ (not (list_any (same x) xs) && distinct xs)) where
   -- one key more, which is none of those before it
   pub distinct_push : (xs : List K) (x : K) → distinct xs ≡ true → list_any (λ y. same y x) xs ≡ false → distinct (xs ++ x ∷ []) ≡ true
   distinct_push [] x h k = more x [] ∙ none
   distinct_push (y ∷ ys) x h k =
       let parts = and_parts _ _ (sym (more y ys) ∙ h) in
       let apart = or_parts _ _ k in
-      let absent : list_any (same y) (ys ++ x ∷ []) ≡ false = list_any-append (same y) ys (x ∷ []) ∙ ap₂ (λ a b. a || (b || false)) (not-true _ parts.0) apart.0 in
+      let absent : list_any (same y) (ys ++ x ∷ []) ≡ false = list_any-append (same y) ys (x ∷ [])
+      ∙ ap₂ (λ a b. a || (b || false)) (not-true _ parts.0) apart.0 in
       more y (ys ++ x ∷ []) ∙ and_from _ _ (ap not absent) (distinct_push ys x parts.1 apart.1)
 
   pub distinct_keys_push : {A : Type 0} (key : A → K) (xs : List A) (x : A) → distinct (map key xs) ≡ true → list_any (λ y. same (key y) (key x)) xs ≡ false
       → distinct (map key (xs ++ x ∷ [])) ≡ true
-  distinct_keys_push key xs x h k = ap distinct (map-append key xs (x ∷ [])) ∙ distinct_push (map key xs) (key x) h (list_any-map key (λ y. same y (key x)) xs ∙ k)
+  distinct_keys_push key xs x h k = ap distinct (map-append key xs (x ∷ []))
+      ∙ distinct_push (map key xs) (key x) h (list_any-map key (λ y. same y (key x)) xs ∙ k)
 
   -- an array of entries whose keys are distinct
-  pub keyed_array_ensures : {A : Type 0} {P : A → Type 0} {read : List A → ReaderOf A} (key : A → K) (lo hi : ℕ) → EachFresh P (λ y x. same (key y) (key x)) read
+  pub keyed_array_ensures : {A : Type 0} {P : A → Type 0} {read : List A → ReaderOf A} (key : A → K) (lo hi : ℕ)
+      → EachFresh P (λ y x. same (key y) (key x)) read
       → EachEnsures (λ xs. HasLength lo hi xs × (All P xs × (distinct (map key xs) ≡ true))) (array lo hi read)
   keyed_array_ensures {P} {read} key lo hi h =
       array_keeps (λ xs. All P xs × (distinct (map key xs) ≡ true)) read
@@ -48,7 +52,8 @@ module _ {K : Type 0} (same : K → K → Bool) (distinct : List K → Bool) (no
 
 -- a number more, which the list does not hold
 pub is_distinct_push : (xs : List ℕ) (x : ℕ) → IsTrue (is_distinct xs) → holds xs x ≡ false → IsTrue (is_distinct (xs ++ x ∷ []))
-is_distinct_push xs x h k = distinct_push (λ x y. x == y) is_distinct refl (λ _ _. refl) xs x h (list_any_same (λ y. y == x) (λ y. x == y) (λ y. eq_turned y x) xs ∙ k)
+is_distinct_push xs x h k =
+    distinct_push (λ x y. x == y) is_distinct refl (λ _ _. refl) xs x h (list_any_same (λ y. y == x) (λ y. x == y) (λ y. eq_turned y x) xs ∙ k)
 
 -- an array of entries whose numbers are distinct
 pub numbered_array_ensures : {A : Type 0} {P : A → Type 0} {read : List A → ReaderOf A} (key : A → ℕ) (lo hi : ℕ) → EachFresh P (λ y x. key y == key x) read
@@ -64,7 +69,11 @@ bytes_eq_is (x ∷ xs) [] = refl
 bytes_eq_is (x ∷ xs) (y ∷ ys) = ap (λ b. (x == y) && b) (bytes_eq_is xs ys)
 
 -- an array of entries whose names are distinct
-pub named_array_ensures : {A : Type 0} {P : A → Type 0} {read : List A → ReaderOf A} (name : A → List ℕ) (lo hi : ℕ) → EachFresh P (λ y x. bytes_eq (name y) (name x)) read
+pub named_array_ensures : {A : Type 0} {P : A → Type 0} {read : List A → ReaderOf A} (name : A → List ℕ) (lo hi : ℕ)
+    → EachFresh P (λ y x. bytes_eq (name y) (name x)) read
     → EachEnsures (λ xs. HasLength lo hi xs × (All P xs × IsTrue (are_distinct_names (map name xs)))) (array lo hi read)
 named_array_ensures name lo hi h = keyed_array_ensures is_same are_distinct_names refl (λ _ _. refl) name lo hi λ earlier path d.
-    weaker (λ x k. (k.0, sym (list_any_same (λ y. bytes_eq (name y) (name x)) (λ y. is_same (name y) (name x)) (λ y. bytes_eq_is (name y) (name x)) earlier) ∙ k.1)) (h earlier path d)
+    weaker (λ x k. (
+      k.0,
+      sym (list_any_same (λ y. bytes_eq (name y) (name x)) (λ y. is_same (name y) (name x)) (λ y. bytes_eq_is (name y) (name x)) earlier) ∙ k.1,
+    )) (h earlier path d)

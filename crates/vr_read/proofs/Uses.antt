@@ -13,15 +13,18 @@ module _ (test : ℕ → Bool) (numbers : List ℕ) (n fleet : ℕ) (low : All (
   pub used_once : list_any (λ k. list_any (λ number. number == k) numbers && test k) (below n) ≡ list_any (λ v. test (slice_index_or numbers v 0)) (below fleet)
   used_once = same_tests _ _ by_vehicle by_number
     where
-      by_vehicle : IsTrue (list_any (λ k. list_any (λ number. number == k) numbers && test k) (below n)) → IsTrue (list_any (λ v. test (slice_index_or numbers v 0)) (below fleet))
+      by_vehicle : IsTrue (list_any (λ k. list_any (λ number. number == k) numbers && test k) (below n))
+          → IsTrue (list_any (λ v. test (slice_index_or numbers v 0)) (below fleet))
       by_vehicle h =
           let found = any_place (λ k. list_any (λ number. number == k) numbers && test k) 0 n h in
           let parts = and_parts _ _ found.3 in
           let place = Any-from_list_any (λ number. number == found.0) numbers parts.0 in
-          let same : slice_index_or numbers place.0 0 ≡ found.0 = get_or_default numbers place.0 0 place.1 place.2 ∙ (place.3 ∙ eqb-true place.1 found.0 place.4) in
+          let same : slice_index_or numbers place.0 0 ≡ found.0 = get_or_default numbers place.0 0 place.1 place.2
+          ∙ (place.3 ∙ eqb-true place.1 found.0 place.4) in
           range_list_any (λ v. test (slice_index_or numbers v 0)) 0 fleet place.0 (omega arith) (omega (arith, full, place.2)) (ap test same ∙ parts.1)
 
-      by_number : IsTrue (list_any (λ v. test (slice_index_or numbers v 0)) (below fleet)) → IsTrue (list_any (λ k. list_any (λ number. number == k) numbers && test k) (below n))
+      by_number : IsTrue (list_any (λ v. test (slice_index_or numbers v 0)) (below fleet))
+          → IsTrue (list_any (λ k. list_any (λ number. number == k) numbers && test k) (below n))
       by_number h =
           let found = any_place (λ v. test (slice_index_or numbers v 0)) 0 fleet h in
           let v = found.0 in

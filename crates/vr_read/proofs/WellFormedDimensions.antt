@@ -10,7 +10,8 @@ use Rattle.vr_model.specs.tables.Numbers.{horizon}
 use Rattle.vr_model.specs.routes.Routes.{is_distinct}
 use Rattle.vr_model.specs.tables.Tables.{is_visit}
 use Rattle.vr_model.specs.tables.Limits.{least_value, greatest_value, greatest_coefficient}
-use Rattle.vr_model.specs.tables.WellFormed.{HasLength, IsIn, WherePresent, IsInterval, IsSoft, IsStopRow, IsBreak, AreBreaks, AreVisitRows, AreVehicleRows, IsEvaluator, IsDimension}
+use Rattle.vr_model.specs.tables.WellFormed.{HasLength, IsIn, WherePresent, IsInterval, IsSoft, IsStopRow, IsBreak, AreBreaks, AreVisitRows, AreVehicleRows}
+use Rattle.vr_model.specs.tables.WellFormed.{IsEvaluator, IsDimension}
 use Rattle.vr_model.specs.declared.records.Model.{Model}
 use Rattle.vr_model.specs.declared.records.Dimension.{Dimension}
 use Rattle.vr_model.specs.declared.records.StopRow.{StopRow}
@@ -21,7 +22,9 @@ use Rattle.vr_read.specs.declared.dimensions.DimensionRows.{DimensionRows}
 use Rattle.vr_read.specs.declared.dimensions.SpanCosts.{SpanCosts}
 use Rattle.vr_read.specs.declared.stop_rows.StopLimits.{StopLimits}
 use Rattle.vr_read.specs.Dimensions.{evaluator, capped, name, transits, bounds, rows as stop_tables, span_costs, dimension}
-use Rattle.vr_json.proofs.Readings.{EachEnsures, EachFresh, IsFull, gives, after, any_value, weaker, whole_ensures, below_ensures, text_ensures, required_ensures, optional_ensures, maybe_ensures, refuse_if_ensures, array_ensures, full_array_ensures, for_each_ensures, two_entries_ensure, replicated}
+use Rattle.vr_json.proofs.Readings.{EachEnsures, EachFresh, IsFull, gives, after, any_value, weaker, whole_ensures, below_ensures, text_ensures}
+use Rattle.vr_json.proofs.Readings.{required_ensures, optional_ensures, maybe_ensures, refuse_if_ensures, array_ensures, full_array_ensures, for_each_ensures}
+use Rattle.vr_json.proofs.Readings.{two_entries_ensure, replicated}
 use Rattle.vr_read.proofs.Distinct.{numbered_array_ensures}
 use Rattle.vr_read.proofs.WellFormedVehicles.{visit_ensures}
 
@@ -55,7 +58,8 @@ limits_ensure : EachEnsures AreLimits limits
 unfolding limits
 limits_ensure path d =
     after (maybe_ensures (codes "window") interval_ensures path d) λ window window_ok.
-    after (optional_ensures (codes "forbidden") [] (record { at_least = omega arith; at_most = omega arith }, All-nil IsInterval) (array_ensures 0 16 (λ so_far. interval_ensures)) path d) λ forbidden forbidden_ok.
+    after (optional_ensures (codes "forbidden") [] (record { at_least = omega arith; at_most = omega arith }, All-nil IsInterval)
+    (array_ensures 0 16 (λ so_far. interval_ensures)) path d) λ forbidden forbidden_ok.
     after (maybe_ensures (codes "soft") soft_ensures path d) λ soft_bound soft_ok.
     gives (record { window_is_interval = window_ok; forbidden_are_intervals = forbidden_ok; soft_in_range = soft_ok })
 
@@ -119,7 +123,8 @@ break_row_ensures path d =
     after (refuse_if_ensures (int_lt latest earliest) _ _) λ ordered kept.
     gives (record { from_in_range = earliest_ok.at_least; in_order = in_order _ _ kept; to_in_range = latest_ok.at_most; duration_in_range = duration_ok })
 
-vehicle_breaks_ensures : (vehicles : ℕ) → EachFresh (λ entry. (entry.vehicle < vehicles) × AreBreaks entry) (λ other entry. other.vehicle == entry.vehicle) (vehicle_breaks vehicles)
+vehicle_breaks_ensures : (vehicles : ℕ)
+    → EachFresh (λ entry. (entry.vehicle < vehicles) × AreBreaks entry) (λ other entry. other.vehicle == entry.vehicle) (vehicle_breaks vehicles)
 unfolding vehicle_breaks
 vehicle_breaks_ensures vehicles earlier path d =
     after (required_ensures (codes "vehicle") (below_ensures vehicles) path d) λ vehicle vehicle_ok.
@@ -134,16 +139,20 @@ evaluator_ensures : (model : Model) → EachEnsures (IsEvaluator model) (evaluat
 unfolding evaluator
 evaluator_ensures model path d =
     after (maybe_ensures (codes "matrix") (below_ensures (length model.matrices)) path d) λ matrix matrix_ok.
-    after (optional_ensures {P = λ values. ((length values ≡ 0) ⊎ (length values ≡ model.nodes)) × All (IsIn least_value greatest_value) values} (codes "values") [] (inl refl, All-nil (IsIn least_value greatest_value))
-    (λ p e. weaker (λ values h. (inr h.one_for_each, h.each_entry)) (full_array_ensures model.nodes (λ so_far. whole_ensures least_value greatest_value) p e)) path d) λ values values_ok.
+    after (optional_ensures {P = λ values. ((length values ≡ 0) ⊎ (length values ≡ model.nodes)) × All (IsIn least_value greatest_value) values}
+    (codes "values") [] (inl refl, All-nil (IsIn least_value greatest_value))
+    (λ p e. weaker (λ values h. (inr h.one_for_each, h.each_entry))
+    (full_array_ensures model.nodes (λ so_far. whole_ensures least_value greatest_value) p e)) path d) λ values values_ok.
     after any_value λ others _.
     gives (record { matrix_in_range = matrix_ok; values_of_all = values_ok.0; values_in_range = values_ok.1 })
 
 capped_ensures : EachEnsures (IsIn (pos 0) horizon) capped
 unfolding capped
-capped_ensures path d = after (whole_ensures (pos 0) (pos (2 ^ 63 - 1)) path d) λ z z_ok. gives (record { at_least = omega (arith, ints, clamps, z_ok.at_least); at_most = omega (arith, ints, clamps) })
+capped_ensures path d = after (whole_ensures (pos 0) (pos (2 ^ 63 - 1)) path d)
+    λ z z_ok. gives (record { at_least = omega (arith, ints, clamps, z_ok.at_least); at_most = omega (arith, ints, clamps) })
 
-name_ensures : (earlier : List Dimension) → EachEnsures (λ bytes. HasLength 1 64 bytes × (list_any (λ dimension. bytes_eq dimension.name bytes) earlier ≡ false)) (name earlier)
+name_ensures : (earlier : List Dimension)
+    → EachEnsures (λ bytes. HasLength 1 64 bytes × (list_any (λ dimension. bytes_eq dimension.name bytes) earlier ≡ false)) (name earlier)
 unfolding name
 name_ensures earlier path d =
     after (text_ensures 1 64 path d) λ bytes bytes_ok.
@@ -171,7 +180,8 @@ module _ (model : Model) where
   transits_ensure path d =
       let vehicles : ℕ = length model.vehicles in
       after (required_ensures (codes "evaluators") (array_ensures 1 8 (λ so_far. evaluator_ensures model)) path d) λ evaluators evaluators_ok.
-      after (optional_ensures (codes "vehicle_evaluators") (replicate vehicles 0) (replicated vehicles (λ k. k < length evaluators) 0 (omega (arith, evaluators_ok.0.at_least)))
+      after (optional_ensures (codes "vehicle_evaluators") (replicate vehicles 0)
+      (replicated vehicles (λ k. k < length evaluators) 0 (omega (arith, evaluators_ok.0.at_least)))
       (full_array_ensures vehicles (λ so_far. below_ensures (length evaluators))) path d) λ vehicle_evaluators numbers_ok.
       gives (record { number_of_evaluators = evaluators_ok.0; each_evaluator = evaluators_ok.1; numbers = numbers_ok })
 
@@ -187,7 +197,8 @@ module _ (model : Model) where
       after (required_ensures (codes "slack_max") capped_ensures path d) λ slack_max slack_ok.
       after (required_ensures (codes "capacity") (for_each_ensures (length model.vehicles) (λ so_far. capped_ensures)) path d) λ capacities capacities_ok.
       after any_value λ fix_start _.
-      after (optional_ensures (codes "visit") (replicate model.nodes (pos 0)) (replicated model.nodes (IsIn (pos 0) greatest_value) (pos 0) (nothing_in_range _))
+      after
+      (optional_ensures (codes "visit") (replicate model.nodes (pos 0)) (replicated model.nodes (IsIn (pos 0) greatest_value) (pos 0) (nothing_in_range _))
       (full_array_ensures model.nodes (λ so_far. whole_ensures (pos 0) greatest_value)) path d) λ visit_times times_ok.
       gives (record { slack_max_in_range = slack_ok; capacities = capacities_ok; visit_times = times_ok })
 
@@ -205,8 +216,14 @@ module _ (model : Model) where
       after (stop_rows_ensure (λ node. IsTrue (is_visit model node)) (codes "nodes") (codes "node") 1000 _ (visit_ensures model) path d) λ nodes nodes_ok.
       after (stop_rows_ensure (λ v. v < vehicles) (codes "starts") (codes "vehicle") 100 _ (below_ensures vehicles) path d) λ starts starts_ok.
       after (stop_rows_ensure (λ v. v < vehicles) (codes "ends") (codes "vehicle") 100 _ (below_ensures vehicles) path d) λ ends ends_ok.
-      after (rows_ensure (λ entry. entry.vehicle) (λ v. v < vehicles) AreBreaks (codes "breaks") 100 _ (vehicle_breaks_ensures vehicles) path d) λ breaks breaks_ok.
-      gives (record { rows_of_visits = visit_rows nodes nodes_ok; rows_of_starts = vehicle_rows starts starts_ok; rows_of_ends = vehicle_rows ends ends_ok; breaks = breaks_ok })
+      after (rows_ensure (λ entry. entry.vehicle) (λ v. v < vehicles) AreBreaks (codes "breaks") 100 _ (vehicle_breaks_ensures vehicles) path d)
+      λ breaks breaks_ok.
+      gives (record {
+        rows_of_visits = visit_rows nodes nodes_ok;
+        rows_of_starts = vehicle_rows starts starts_ok;
+        rows_of_ends = vehicle_rows ends ends_ok;
+        breaks = breaks_ok;
+      })
 
   -- the coefficients that are read
   record AreSpanCosts (read : SpanCosts) : Type 0 where
@@ -217,12 +234,14 @@ module _ (model : Model) where
   unfolding span_costs
   span_costs_ensure path d =
       let vehicles : ℕ = length model.vehicles in
-      after (optional_ensures (codes "span_cost") (replicate vehicles (pos 0)) (replicated vehicles (IsIn (pos 0) greatest_coefficient) (pos 0) (nothing_in_range _))
+      after (optional_ensures (codes "span_cost") (replicate vehicles (pos 0))
+      (replicated vehicles (IsIn (pos 0) greatest_coefficient) (pos 0) (nothing_in_range _))
       (for_each_ensures vehicles (λ so_far. whole_ensures (pos 0) greatest_coefficient)) path d) λ by_vehicle spans_ok.
       after (optional_ensures (codes "global_span_cost") (pos 0) (nothing_in_range _) (whole_ensures (pos 0) greatest_coefficient) path d) λ global global_ok.
       gives (record { by_vehicle = spans_ok; global_in_range = global_ok })
 
-  pub dimension_ensures : EachFresh (IsDimension model) (λ other read. bytes_eq other.name read.name) (dimension model.nodes (length model.matrices) (length model.vehicles) model.vehicles)
+  pub dimension_ensures : EachFresh (IsDimension model) (λ other read. bytes_eq other.name read.name)
+      (dimension model.nodes (length model.matrices) (length model.vehicles) model.vehicles)
   unfolding dimension
   dimension_ensures earlier path d =
       after (required_ensures (codes "name") (name_ensures earlier) path d) λ bytes name_ok.

@@ -23,7 +23,8 @@ use Rattle.vr_read.specs.declared.model.VisitTables.{VisitTables}
 use Rattle.vr_read.specs.ModelParts.{HasModelParts}
 use Rattle.vr_read.specs.Rules.{for_all, rules}
 use Rattle.vr_read.specs.Models.{visit_tables, parts, base, model_from_parts, model_table, read_model}
-use Rattle.vr_json.proofs.Readings.{Ensures, EachEnsures, gives, after, any_value, weaker, for_every, answered, count_ensures, required_ensures, optional_ensures, refuse_if_ensures, array_ensures}
+use Rattle.vr_json.proofs.Readings.{Ensures, EachEnsures, gives, after, any_value, weaker, for_every, answered, count_ensures, required_ensures}
+use Rattle.vr_json.proofs.Readings.{optional_ensures, refuse_if_ensures, array_ensures}
 use Rattle.vr_read.proofs.Distinct.{named_array_ensures}
 use Rattle.vr_read.proofs.WellFormedVehicles.{matrix_ensures, vehicle_ensures}
 use Rattle.vr_read.proofs.WellFormedDimensions.{dimension_ensures}
@@ -39,9 +40,11 @@ unfolding for_all
 for_range_ensures a zero h = gives λ k low high. absurd (omega arith)
 for_range_ensures {P} a (suc n) h =
     after (h a) λ passed here.
-    weaker (λ passed later k low high. elim (cases_eq a k) [ inl e ↦ subst P e here | inr apart ↦ later k (omega (arith, apart)) (omega arith) ]) (for_range_ensures (a + 1) n h)
+    weaker (λ passed later k low high. elim (cases_eq a k) [ inl e ↦ subst P e here | inr apart ↦ later k (omega (arith, apart)) (omega arith) ])
+    (for_range_ensures (a + 1) n h)
 
-for_all_ensures : {P : ℕ → Type 0} {rule : ℕ → Result ⊤ Fault} (n : ℕ) → ((k : ℕ) → Ensures (λ passed. P k) (rule k)) → Ensures (λ passed. (k : ℕ) → k < n → P k) (for_all (below n) rule)
+for_all_ensures : {P : ℕ → Type 0} {rule : ℕ → Result ⊤ Fault} (n : ℕ)
+    → ((k : ℕ) → Ensures (λ passed. P k) (rule k)) → Ensures (λ passed. (k : ℕ) → k < n → P k) (for_all (below n) rule)
 for_all_ensures n h = weaker (λ passed each k low. each k (omega arith) (omega arith)) (for_range_ensures 0 n h)
 
 -- no rule on the whole model is broken
@@ -55,9 +58,11 @@ rules_ensure : (path : List ℕ) (model : Model) → Ensures (λ passed. KeepsMo
 unfolding rules
 rules_ensure path model =
     after (for_all_ensures (length model.vehicles) (λ v. refuse_if_ensures (has_negative_cost model v) _ _)) λ costs costs_ok.
-    after (for_all_ensures (length model.dimensions) (λ d. for_all_ensures (length (dimension_at model d).evaluators) (λ k. refuse_if_ensures (has_large_entry model d k) _ _))) λ entries entries_ok.
+    after (for_all_ensures (length model.dimensions)
+    (λ d. for_all_ensures (length (dimension_at model d).evaluators) (λ k. refuse_if_ensures (has_large_entry model d k) _ _))) λ entries entries_ok.
     after (for_all_ensures (length model.dimensions) (λ d. refuse_if_ensures (goes_back model d) _ _)) λ transits transits_ok.
-    weaker (λ saved saves. record { costs_not_negative = costs_ok; entries_not_large = entries_ok; transits_forward = transits_ok; can_save = saves }) (refuse_if_ensures (cannot_save model) _ _)
+    weaker (λ saved saves. record { costs_not_negative = costs_ok; entries_not_large = entries_ok; transits_forward = transits_ok; can_save = saves })
+    (refuse_if_ensures (cannot_save model) _ _)
 
 -- ---- the table
 
@@ -79,12 +84,14 @@ unfolding visit_tables
 visit_tables_ensure model path d =
     after (optional_ensures (codes "groups") [] (no_entries 1000, no_groups model) (groups_ensure model 1000) path d) λ groups groups_ok.
     after (optional_ensures (codes "pairs") [] (no_entries 500, no_pairs model) (pairs_ensure model 500) path d) λ pairs pairs_ok.
-    after (optional_ensures (codes "allowed") [] (no_entries 1000, (All-nil (IsAllowed model), refl)) (allowed_rows_ensure model 1000) path d) λ allowed_rows allowed_ok.
+    after (optional_ensures (codes "allowed") [] (no_entries 1000, (All-nil (IsAllowed model), refl)) (allowed_rows_ensure model 1000) path d)
+    λ allowed_rows allowed_ok.
     gives (record { groups = groups_ok; pairs = pairs_ok; allowed_rows = allowed_ok })
 
 -- what is read from the dimensions on
 record AreOtherParts (model : Model) (read : ModelParts) : Type 0 where
-  dimensions : HasLength 0 4 read.dimensions × (All (IsDimension model) read.dimensions × IsTrue (are_distinct_names (map (λ dimension. dimension.name) read.dimensions)))
+  dimensions : HasLength 0 4 read.dimensions
+      × (All (IsDimension model) read.dimensions × IsTrue (are_distinct_names (map (λ dimension. dimension.name) read.dimensions)))
   tables : AreVisitTables model read.tables
   search_in_range : IsSearch read.search
 
@@ -111,7 +118,8 @@ base_ensures path d =
     after (required_ensures (codes "nodes") (count_ensures 1 1000) path d) λ nodes nodes_ok.
     after (required_ensures (codes "matrices") (array_ensures 1 16 (λ so_far. matrix_ensures nodes)) path d) λ matrices matrices_ok.
     after (required_ensures (codes "vehicles") (array_ensures 1 100 (λ so_far path d.
-    for_every (λ (other : Model). vehicle_ensures version (over nodes matrices other.vehicles other) matrices_ok.0.at_least path d))) path d) λ vehicles vehicles_ok.
+    for_every (λ (other : Model). vehicle_ensures version (over nodes matrices other.vehicles other) matrices_ok.0.at_least path d)))
+    path d) λ vehicles vehicles_ok.
     gives (record {
       number_of_nodes = nodes_ok;
       matrices = matrices_ok;
@@ -136,7 +144,12 @@ table_ensures path d =
     after any_value λ unknown _.
     let read : Model = model_from_parts start others in
     gives (record {
-      has_parts = record { number_of_vehicles = start_ok.number_of_vehicles; each_matrix = start_ok.matrices.1; each_vehicle = start_ok.each_vehicle read; each_dimension = (others_ok read).dimensions.1.0 };
+      has_parts = record {
+        number_of_vehicles = start_ok.number_of_vehicles;
+        each_matrix = start_ok.matrices.1;
+        each_vehicle = start_ok.each_vehicle read;
+        each_dimension = (others_ok read).dimensions.1.0;
+      };
       is_well_formed = λ kept. record {
         number_of_nodes = start_ok.number_of_nodes;
         number_of_matrices = start_ok.matrices.0;
@@ -165,7 +178,8 @@ table_ensures path d =
 
 -- so a call that answers the table answers a model with those parts
 pub has_parts_answer : (path : List ℕ) (d : Data) {answer : Result Model ReadFail} → Answers answer (model_table path d) → IfOk answer HasModelParts
-has_parts_answer path d answers = answered (let h : EachEnsures HasModelParts model_table = λ path d. weaker (λ model table. table.has_parts) (table_ensures path d) in h path d) answers
+has_parts_answer path d answers =
+    answered (let h : EachEnsures HasModelParts model_table = λ path d. weaker (λ model table. table.has_parts) (table_ensures path d) in h path d) answers
 
 read_model_ensures : EachEnsures IsWellFormed read_model
 unfolding read_model

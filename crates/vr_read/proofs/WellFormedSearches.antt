@@ -9,7 +9,8 @@ use Rattle.vr_model.specs.declared.neighbours.Neighbourhood.{Neighbourhood}
 use Rattle.vr_model.specs.moves.Moves.{all_neighbourhoods}
 use Rattle.vr_read.specs.declared.searches.SearchChoices.{SearchChoices}
 use Rattle.vr_read.specs.Searches.{neighbourhood, default_search, choices, search_row}
-use Rattle.vr_json.proofs.Readings.{EachEnsures, EachFresh, gives, after, any_value, weaker, whole_ensures, count_ensures, optional_ensures, refuse_if_ensures, two_entries_ensure}
+use Rattle.vr_json.proofs.Readings.{EachEnsures, EachFresh, gives, after, any_value, weaker, whole_ensures, count_ensures, optional_ensures, refuse_if_ensures}
+use Rattle.vr_json.proofs.Readings.{two_entries_ensure}
 use Rattle.vr_read.proofs.Distinct.{numbered_array_ensures}
 
 neighbourhood_ensures : EachFresh (λ chosen. Unit {0}) (λ other chosen. neighbourhood_number other == neighbourhood_number chosen) neighbourhood
@@ -57,9 +58,12 @@ pub search_ensures : EachEnsures IsSearch search_row
 unfolding search_row
 search_ensures path d =
     after (choices_ensure path d) λ chosen limits_ok.
-    after (optional_ensures (codes "lambda") (pos 1, pos 10) (default_in_range.p_in_range, default_in_range.q_in_range) (two_entries_ensure (whole_ensures (pos 1) (pos 1000))) path d) λ lambda lambda_ok.
-    after (optional_ensures {P = AreNeighbourhoods} (codes "neighbourhoods") all_neighbourhoods (record { at_most_all = omega arith; no_neighbourhood_twice = refl })
-    (λ p e. weaker (λ chosen h. record { at_most_all = h.0.at_most; no_neighbourhood_twice = h.1.1 }) (numbered_array_ensures neighbourhood_number 0 11 neighbourhood_ensures p e)) path d) λ neighbourhoods chosen_ok.
+    after (optional_ensures (codes "lambda") (pos 1, pos 10) (default_in_range.p_in_range, default_in_range.q_in_range)
+    (two_entries_ensure (whole_ensures (pos 1) (pos 1000))) path d) λ lambda lambda_ok.
+    after (optional_ensures {P = AreNeighbourhoods} (codes "neighbourhoods")
+    all_neighbourhoods (record { at_most_all = omega arith; no_neighbourhood_twice = refl })
+    (λ p e. weaker (λ chosen h. record { at_most_all = h.0.at_most; no_neighbourhood_twice = h.1.1 })
+    (numbered_array_ensures neighbourhood_number 0 11 neighbourhood_ensures p e)) path d) λ neighbourhoods chosen_ok.
     after (optional_ensures (codes "cut") 10 (omega arith, omega arith) (count_ensures 1 100) path d) λ cut cut_ok.
     after (optional_ensures (codes "tenure") 10 (omega arith, omega arith) (count_ensures 1 1000) path d) λ tenure tenure_ok.
     after any_value λ others _.

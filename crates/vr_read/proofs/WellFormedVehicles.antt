@@ -11,7 +11,8 @@ use Rattle.vr_model.specs.tables.WellFormed.{IsMatrix, IsVehicle}
 use Rattle.vr_model.specs.declared.records.Model.{Model}
 use Rattle.vr_read.specs.declared.formats.Format.{Format}
 use Rattle.vr_read.specs.Vehicles.{matrix, ends, vehicle, is_terminal, visit}
-use Rattle.vr_json.proofs.Readings.{EachEnsures, IsFull, gives, after, any_value, whole_ensures, below_ensures, required_ensures, optional_ensures, refuse_if_ensures, full_array_ensures}
+use Rattle.vr_json.proofs.Readings.{EachEnsures, IsFull, gives, after, any_value, whole_ensures, below_ensures, required_ensures, optional_ensures}
+use Rattle.vr_json.proofs.Readings.{refuse_if_ensures, full_array_ensures}
 
 -- rows of n entries each, one behind another
 length-rows : (n : ℕ) (P : ℤ → Type 0) (rows : List (List ℤ)) → All (IsFull n P) rows → length (flat_map (λ row. row) rows) ≡ length rows * n
@@ -23,14 +24,16 @@ length-rows n P (row ∷ rows) h =
 
 All-rows : (n : ℕ) (P : ℤ → Type 0) (rows : List (List ℤ)) → All (IsFull n P) rows → All P (flat_map (λ row. row) rows)
 All-rows n P [] h = All-nil P
-All-rows n P (row ∷ rows) h = All-append P row (flat_map (λ row. row) rows) (All-head (IsFull n P) row rows h).each_entry (All-rows n P rows (All-tail (IsFull n P) row rows h))
+All-rows n P (row ∷ rows) h =
+    All-append P row (flat_map (λ row. row) rows) (All-head (IsFull n P) row rows h).each_entry (All-rows n P rows (All-tail (IsFull n P) row rows h))
 
 pub matrix_ensures : (n : ℕ) → EachEnsures (IsMatrix n) (matrix n)
 unfolding matrix
-matrix_ensures n path d = after (full_array_ensures n (λ earlier. full_array_ensures n (λ so_far. whole_ensures least_value greatest_cost)) path d) λ rows h. gives (record {
-  square = length-rows n _ rows h.each_entry ∙ ap (λ m. m * n) h.one_for_each;
-  entries_in_range = All-rows n _ rows h.each_entry;
-})
+matrix_ensures n path d =
+    after (full_array_ensures n (λ earlier. full_array_ensures n (λ so_far. whole_ensures least_value greatest_cost)) path d) λ rows h. gives (record {
+      square = length-rows n _ rows h.each_entry ∙ ap (λ m. m * n) h.one_for_each;
+      entries_in_range = All-rows n _ rows h.each_entry;
+    })
 
 ends_ensure : (n : ℕ) → EachEnsures (λ terminals. (terminals.0 < n) × (terminals.1 < n)) (ends n)
 unfolding ends
@@ -39,12 +42,14 @@ ends_ensure n path d =
     after (required_ensures (codes "end") (below_ensures n) path d) λ final final_ok.
     gives (start_ok, final_ok)
 
-pub vehicle_ensures : (version : Format) (model : Model) → 1 ≤ length model.matrices → EachEnsures (IsVehicle model) (vehicle version model.nodes (length model.matrices))
+pub vehicle_ensures : (version : Format) (model : Model) → 1 ≤ length model.matrices
+    → EachEnsures (IsVehicle model) (vehicle version model.nodes (length model.matrices))
 unfolding vehicle
 vehicle_ensures version model some path d =
     after (ends_ensure model.nodes path d) λ terminals terminals_ok.
     after (optional_ensures (codes "costs") 0 some (below_ensures (length model.matrices)) path d) λ costs costs_ok.
-    after (optional_ensures (codes "fixed") (pos 0) (record { at_least = omega (arith, ints); at_most = omega (arith, ints) }) (whole_ensures (pos 0) greatest_cost) path d) λ fixed fixed_ok.
+    after (optional_ensures (codes "fixed") (pos 0) (record { at_least = omega (arith, ints); at_most = omega (arith, ints) })
+    (whole_ensures (pos 0) greatest_cost) path d) λ fixed fixed_ok.
     after any_value λ policy _.
     after any_value λ rule _.
     after any_value λ others _.

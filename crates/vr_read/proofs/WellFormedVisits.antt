@@ -19,7 +19,8 @@ use Rattle.vr_model.specs.declared.records.Group.{Group}
 use Rattle.vr_model.specs.declared.records.Pair.{Pair}
 use Rattle.vr_read.specs.Vehicles.{visit}
 use Rattle.vr_read.specs.Visits.{group_node, group, is_paired, pair, allowed_vehicle, allowed}
-use Rattle.vr_json.proofs.Readings.{EachEnsures, EachFresh, gives, after, any_value, whole_ensures, count_ensures, below_ensures, required_ensures, optional_ensures, maybe_ensures, refuse_if_ensures, array_keeps}
+use Rattle.vr_json.proofs.Readings.{EachEnsures, EachFresh, gives, after, any_value, whole_ensures, count_ensures, below_ensures, required_ensures}
+use Rattle.vr_json.proofs.Readings.{optional_ensures, maybe_ensures, refuse_if_ensures, array_keeps}
 use Rattle.vr_read.proofs.Distinct.{is_distinct_push, numbered_array_ensures, list_any-flat_map, list_any_same}
 use Rattle.vr_model.proofs.tables.Tests.{eq_turned}
 use Rattle.vr_read.proofs.WellFormedVehicles.{visit_ensures}
@@ -41,10 +42,12 @@ module _ (model : Model) where
   group_nodes_push groups so_far node h visit fresh =
       let before : List ℕ = each groups (λ group. group.nodes) in
       let absent : holds (before ++ so_far) node ≡ false =
-      list_any-append (λ y. node == y) before so_far ∙ ap (λ b. b || holds so_far node) (list_any-flat_map (λ y. node == y) (λ group. group.nodes) groups) ∙ fresh in
+      list_any-append (λ y. node == y) before so_far
+      ∙ ap (λ b. b || holds so_far node) (list_any-flat_map (λ y. node == y) (λ group. group.nodes) groups) ∙ fresh in
       record {
         each_is_visit = All-push (λ node. IsTrue (is_visit model node)) so_far node h.each_is_visit visit;
-        no_node_twice = subst (λ xs. IsTrue (is_distinct xs)) (append_assoc before so_far (node ∷ [])) (is_distinct_push (before ++ so_far) node h.no_node_twice absent);
+        no_node_twice =
+            subst (λ xs. IsTrue (is_distinct xs)) (append_assoc before so_far (node ∷ [])) (is_distinct_push (before ++ so_far) node h.no_node_twice absent);
       }
 
   group_nodes_ensure : (groups : List Group) → IsTrue (is_distinct (each groups (λ group. group.nodes)))
@@ -68,7 +71,8 @@ module _ (model : Model) where
       after (optional_ensures (codes "max") 1 (omega arith, nodes_ok.0.at_least) (count_ensures 1 (length nodes)) path d) λ most most_ok.
       after any_value λ others _.
       gives (record {
-        each_group = All-push (IsGroup model) groups _ h.each_group (record { number_of_nodes = nodes_ok.0; each_node_is_visit = nodes_ok.1.each_is_visit; penalty_in_range = penalty_ok; max_in_range = most_ok });
+        each_group = All-push (IsGroup model) groups _ h.each_group
+            (record { number_of_nodes = nodes_ok.0; each_node_is_visit = nodes_ok.1.each_is_visit; penalty_in_range = penalty_ok; max_in_range = most_ok });
         no_node_twice = rw (each_push (λ group. group.nodes) groups _) nodes_ok.1.no_node_twice;
       })
 
@@ -91,12 +95,14 @@ module _ (model : Model) where
       ∙ h
 
   pairs_push : (pairs : List Pair) (pickup delivery : ℕ) → ArePairs pairs → IsTrue (is_visit model pickup) → IsTrue (is_visit model delivery)
-      → is_paired pairs pickup ≡ false → (is_paired pairs delivery || (pickup == delivery)) ≡ false → ArePairs (pairs ++ record { pickup = pickup; delivery = delivery } ∷ [])
+      → is_paired pairs pickup ≡ false → (is_paired pairs delivery || (pickup == delivery)) ≡ false
+      → ArePairs (pairs ++ record { pickup = pickup; delivery = delivery } ∷ [])
   pairs_push pairs pickup delivery h p q first second =
       let before : List ℕ = each pairs pair_nodes in
       let apart = or_parts _ _ second in
       let absent : holds (before ++ pickup ∷ []) delivery ≡ false =
-      list_any-append (λ y. delivery == y) before (pickup ∷ []) ∙ ap₂ (λ a b. a || (b || false)) (unpaired pairs delivery apart.0) (eq_turned delivery pickup ∙ apart.1) in
+      list_any-append (λ y. delivery == y) before (pickup ∷ [])
+      ∙ ap₂ (λ a b. a || (b || false)) (unpaired pairs delivery apart.0) (eq_turned delivery pickup ∙ apart.1) in
       let distinct = is_distinct_push (before ++ pickup ∷ []) delivery (is_distinct_push before pickup h.no_node_twice (unpaired pairs pickup first)) absent in
       record {
         each_pair = All-push (IsPair model) pairs _ h.each_pair (record { pickup_is_visit = p; delivery_is_visit = q });
@@ -126,7 +132,8 @@ module _ (model : Model) where
     each_is_vehicle : All (λ v. v < vehicles) allowed
     no_vehicle_twice : IsTrue (is_distinct allowed)
 
-  allowed_vehicles_ensure : (vehicles : ℕ) → EachEnsures (λ allowed. HasLength 1 vehicles allowed × AreAllowed vehicles allowed) (array 1 vehicles (allowed_vehicle vehicles))
+  allowed_vehicles_ensure : (vehicles : ℕ)
+      → EachEnsures (λ allowed. HasLength 1 vehicles allowed × AreAllowed vehicles allowed) (array 1 vehicles (allowed_vehicle vehicles))
   unfolding allowed_vehicle
   allowed_vehicles_ensure vehicles = array_keeps (AreAllowed vehicles) (allowed_vehicle vehicles) (λ so_far so_far_ok path d.
       after (below_ensures vehicles path d) λ vehicle low.
@@ -144,7 +151,17 @@ module _ (model : Model) where
       after (refuse_if_ensures (list_any (λ row. row.node == node) earlier) _ _) λ fresh apart.
       after (required_ensures (codes "vehicles") (allowed_vehicles_ensure (length model.vehicles)) path d) λ permitted permitted_ok.
       after any_value λ others _.
-      gives (record { node_is_visit = node_ok; number_of_vehicles = permitted_ok.0; vehicles_in_range = permitted_ok.1.each_is_vehicle; no_vehicle_twice = permitted_ok.1.no_vehicle_twice }, apart)
+      gives (
+        record {
+          node_is_visit = node_ok;
+          number_of_vehicles = permitted_ok.0;
+          vehicles_in_range = permitted_ok.1.each_is_vehicle;
+          no_vehicle_twice = permitted_ok.1.no_vehicle_twice;
+        },
+        apart,
+      )
 
-  pub allowed_rows_ensure : (hi : ℕ) → EachEnsures (λ rows. HasLength 0 hi rows × (All (IsAllowed model) rows × IsTrue (is_distinct (map (λ row. row.node) rows)))) (array 0 hi (allowed model.nodes (length model.vehicles) model.vehicles))
+  pub allowed_rows_ensure : (hi : ℕ)
+      → EachEnsures (λ rows. HasLength 0 hi rows × (All (IsAllowed model) rows × IsTrue (is_distinct (map (λ row. row.node) rows))))
+      (array 0 hi (allowed model.nodes (length model.vehicles) model.vehicles))
   allowed_rows_ensure hi = numbered_array_ensures (λ row. row.node) 0 hi allowed_ensures

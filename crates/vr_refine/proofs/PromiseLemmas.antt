@@ -58,17 +58,21 @@ prices_none bytes answer not_0 not_9 = record { priced = λ e. absurd (not_0 e);
 
 module _ (reports : List Event → List ℕ) (bytes : List ℕ) where
   module _ (d : Data) (short : length bytes ≤ max_input) (some : input_value bytes ≡ Some d) where
-    lists-classify : (it : Priced) → priced_of d ≡ Ok it → (o : Option ListFault) → fault_of_lists it.model it.lists ≡ o → ClassifiesPriced bytes (reply_to_lists it.model it.lists o).status
+    lists-classify : (it : Priced) → priced_of d ≡ Ok it → (o : Option ListFault)
+        → fault_of_lists it.model it.lists ≡ o → ClassifiesPriced bytes (reply_to_lists it.model it.lists o).status
     lists-classify it is None e =
-        done-classifies priced_of 9 IsPriceable IsFaulty (omega arith) (λ e. absurd (omega arith)) bytes d short some it is (priceable it ((priced_ensures d).of_value it is) e) (λ h. let k = subst IsSome e h in absurd cc)
+        done-classifies priced_of 9 IsPriceable IsFaulty (omega arith) (λ e. absurd (omega arith)) bytes d short
+        some it is (priceable it ((priced_ensures d).of_value it is) e) (λ h. let k = subst IsSome e h in absurd cc)
     lists-classify it is (Some fault) e =
-        undone-classifies priced_of 9 IsPriceable IsFaulty (omega arith) (λ e. absurd (omega arith)) bytes d short some it is (subst IsSome (sym e) refl) (not_faulty it ((priced_ensures d).of_value it is) fault e)
+        undone-classifies priced_of 9 IsPriceable IsFaulty (omega arith) (λ e. absurd (omega arith)) bytes d
+        short some it is (subst IsSome (sym e) refl) (not_faulty it ((priced_ensures d).of_value it is) fault e)
 
     priced-classify : (m : Result Priced Fault) → priced_of d ≡ m → ClassifiesPriced bytes (reply_to_priced m).status
     priced-classify (Err fault) is = fault-classifies priced_of 9 IsPriceable IsFaulty (omega arith) (λ e. absurd (omega arith)) bytes d short some fault is
     priced-classify (Ok it) is = lists-classify it is (fault_of_lists it.model it.lists) refl
 
-    lists-price : (it : Priced) → priced_of d ≡ Ok it → (o : Option ListFault) → fault_of_lists it.model it.lists ≡ o → Prices bytes (reply_to_lists it.model it.lists o)
+    lists-price : (it : Priced) → priced_of d ≡ Ok it → (o : Option ListFault)
+        → fault_of_lists it.model it.lists ≡ o → Prices bytes (reply_to_lists it.model it.lists o)
     lists-price it is None e =
         let sound = (priced_ensures d).of_value it is in
         let valid = priceable it sound e in record {
@@ -108,7 +112,8 @@ module _ (reports : List Event → List ℕ) (bytes : List ℕ) where
 
   price-refused : (fault : Fault) → HasFault priced_of bytes fault → (reply_to_bytes (reply_to_tree Price reports) bytes).text ≡ text_line (refused_tree fault)
   price-refused fault r =
-      ap (λ answer. answer.text) (reply-short (reply_to_tree Price reports) bytes r.short ∙ ap (reply_to_json (reply_to_tree Price reports)) r.is_value ∙ ap reply_to_priced r.is_fault)
+      ap (λ answer. answer.text) (reply-short (reply_to_tree Price reports) bytes r.short
+      ∙ ap (reply_to_json (reply_to_tree Price reports)) r.is_value ∙ ap reply_to_priced r.is_fault)
 
 -- ---- what is found
 
@@ -126,17 +131,22 @@ module _ (asked : Mode) (reports : List Event → List ℕ) (bytes : List ℕ) w
   has-found given o e = sym (is-found asked given.model given.routes (wish_in asked given.wish)) ∙ ap is_some e
 
   module _ (d : Data) (short : length bytes ≤ max_input) (some : input_value bytes ≡ Some d) where
-    found-classify : (given : Given) → given_of d ≡ Ok given → (o : Option Found) → found_of asked given ≡ o → ClassifiesFound asked bytes (reply_to_found asked reports given.model o).status
+    found-classify : (given : Given) → given_of d ≡ Ok given → (o : Option Found) → found_of asked given ≡ o
+        → ClassifiesFound asked bytes (reply_to_found asked reports given.model o).status
     found-classify given is None none =
-        undone-classifies given_of 6 (HasFound asked) (HasFoundNone asked) (omega arith) (λ e. absurd (omega arith)) bytes d short some given is (has-found given None none) (λ h. let k = sym (has-found given None none) ∙ h in absurd cc)
+        undone-classifies given_of 6 (HasFound asked) (HasFoundNone asked) (omega arith) (λ e. absurd (omega arith)) bytes
+        d short some given is (has-found given None none) (λ h. let k = sym (has-found given None none) ∙ h in absurd cc)
     found-classify given is (Some found) e =
-        done-classifies given_of 6 (HasFound asked) (HasFoundNone asked) (omega arith) (λ e. absurd (omega arith)) bytes d short some given is (has-found given (Some found) e) (λ h. let k = sym (has-found given (Some found) e) ∙ h in absurd cc)
+        done-classifies given_of 6 (HasFound asked) (HasFoundNone asked) (omega arith) (λ e. absurd (omega arith)) bytes d short
+        some given is (has-found given (Some found) e) (λ h. let k = sym (has-found given (Some found) e) ∙ h in absurd cc)
 
     given-classify : (m : Result Given Fault) → given_of d ≡ m → ClassifiesFound asked bytes (reply_to_given asked reports m).status
-    given-classify (Err fault) is = fault-classifies given_of 6 (HasFound asked) (HasFoundNone asked) (omega arith) (λ e. absurd (omega arith)) bytes d short some fault is
+    given-classify (Err fault) is =
+        fault-classifies given_of 6 (HasFound asked) (HasFoundNone asked) (omega arith) (λ e. absurd (omega arith)) bytes d short some fault is
     given-classify (Ok given) is = found-classify given is (found_of asked given) refl
 
-    found-found : (given : Given) → given_of d ≡ Ok given → (o : Option Found) → found_of asked given ≡ o → FoundWhere (reply_to_found asked reports given.model o)
+    found-found : (given : Given) → given_of d ≡ Ok given → (o : Option Found)
+        → found_of asked given ≡ o → FoundWhere (reply_to_found asked reports given.model o)
     found-found given is None none zero = absurd (omega arith)
     found-found given is (Some found) e zero =
         let read = (given_ensures [] d).of_value given is in
@@ -156,23 +166,28 @@ module _ (asked : Mode) (reports : List Event → List ℕ) (bytes : List ℕ) w
     given-found (Ok given) is zero = found-found given is (found_of asked given) refl zero
 
   find-classifies : ClassifiesFound asked bytes (reply_to_bytes (reply_to_tree (Find asked) reports) bytes).status
-  find-classifies = of_input-classifies given_of 6 (HasFound asked) (HasFoundNone asked) (omega arith) (λ e. absurd (omega arith)) bytes (reply_to_tree (Find asked) reports)
+  find-classifies =
+      of_input-classifies given_of 6 (HasFound asked) (HasFoundNone asked) (omega arith) (λ e. absurd (omega arith)) bytes (reply_to_tree (Find asked) reports)
       (λ d short some. given-classify d short some (given_of d) refl)
 
   find-found : FoundWhere (reply_to_bytes (reply_to_tree (Find asked) reports) bytes)
   find-found = of_input (reply_to_tree (Find asked) reports) bytes FoundWhere (λ long zero. absurd (omega arith)) (λ short none zero. absurd (omega arith))
       (λ d short some. given-found d short some (given_of d) refl)
 
-  find-refused : (fault : Fault) → HasFault given_of bytes fault → (reply_to_bytes (reply_to_tree (Find asked) reports) bytes).text ≡ text_line (refused_tree fault)
+  find-refused : (fault : Fault) → HasFault given_of bytes fault
+      → (reply_to_bytes (reply_to_tree (Find asked) reports) bytes).text ≡ text_line (refused_tree fault)
   find-refused fault r =
-      ap (λ answer. answer.text) (reply-short (reply_to_tree (Find asked) reports) bytes r.short ∙ ap (reply_to_json (reply_to_tree (Find asked) reports)) r.is_value ∙ ap (reply_to_given asked reports) r.is_fault)
+      ap (λ answer. answer.text) (reply-short (reply_to_tree (Find asked) reports) bytes r.short
+      ∙ ap (reply_to_json (reply_to_tree (Find asked) reports)) r.is_value ∙ ap (reply_to_given asked reports) r.is_fault)
 
 -- ---- by the words
 
 module _ (reports : List Event → List ℕ) (words : List (List ℕ)) (bytes : List ℕ) where
   module _ (asks : AsksPrice words) where
     pub words-classify : ClassifiesPriced bytes (reply reports words bytes).status
-    words-classify = let P : Option Request → Type 0 = λ o. ClassifiesPriced bytes (reply_in reports o bytes).status in subst P (sym asks) (price-classifies reports bytes)
+    words-classify =
+        let P : Option Request → Type 0 = λ o. ClassifiesPriced bytes (reply_in reports o bytes).status in
+        subst P (sym asks) (price-classifies reports bytes)
 
     pub words-price : Prices bytes (reply reports words bytes)
     words-price = let P : Option Request → Type 0 = λ o. Prices bytes (reply_in reports o bytes) in subst P (sym asks) (price-prices reports bytes)
@@ -183,10 +198,14 @@ module _ (reports : List Event → List ℕ) (words : List (List ℕ)) (bytes : 
 
   module _ (asked : Mode) (asks : IsAskedFor asked words) where
     pub asked-classify : ClassifiesFound asked bytes (reply reports words bytes).status
-    asked-classify = let P : Option Request → Type 0 = λ o. ClassifiesFound asked bytes (reply_in reports o bytes).status in subst P (sym asks) (find-classifies asked reports bytes)
+    asked-classify =
+        let P : Option Request → Type 0 = λ o. ClassifiesFound asked bytes (reply_in reports o bytes).status in
+        subst P (sym asks) (find-classifies asked reports bytes)
 
     pub asked-found : (reply reports words bytes).status ≡ 0 → IsFoundBy asked reports bytes (reply reports words bytes).text
-    asked-found = let P : Option Request → Type 0 = λ o. FoundWhere asked reports bytes (reply_in reports o bytes) in subst P (sym asks) (find-found asked reports bytes)
+    asked-found =
+        let P : Option Request → Type 0 = λ o. FoundWhere asked reports bytes (reply_in reports o bytes) in
+        subst P (sym asks) (find-found asked reports bytes)
 
     pub asked-refused : (fault : Fault) → HasFault given_of bytes fault → (reply reports words bytes).text ≡ text_line (refused_tree fault)
     asked-refused fault r = ap (λ o. (reply_in reports o bytes).text) asks ∙ find-refused asked reports bytes fault r
@@ -196,7 +215,8 @@ pub record ClassifiesText (bytes : List ℕ) (status : ℕ) : Type 0 where
   pub too_long : (status ≡ 8) ↔ IsTooLong bytes
   pub not_json : (status ≡ 4) ↔ IsNotJson bytes
 
-pub read-classify : (reports : List Event → List ℕ) (words : List (List ℕ)) (bytes : List ℕ) → ReadsInput words → ClassifiesText bytes (reply reports words bytes).status
+pub read-classify : (reports : List Event → List ℕ) (words : List (List ℕ)) (bytes : List ℕ)
+    → ReadsInput words → ClassifiesText bytes (reply reports words bytes).status
 read-classify reports words bytes h = by (request_of words) h
   where
     by : (o : Option Request) → is_read o ≡ true → ClassifiesText bytes (reply_in reports o bytes).status

@@ -15,7 +15,8 @@ pub record IsSound (it : Priced) : Type 0 where
   pub well_formed : IsWellFormed it.model
   pub are_lists : IsTrue (are_lists it.model it.lists)
 
-of_routes : (path : List ℕ) (model : Model) → IsWellFormed model → (routes : Option (List (List ℕ))) → WherePresent (λ lists. IsTrue (are_lists model lists)) routes → Ensures IsSound (priced_from path model routes)
+of_routes : (path : List ℕ) (model : Model) → IsWellFormed model → (routes : Option (List (List ℕ)))
+    → WherePresent (λ lists. IsTrue (are_lists model lists)) routes → Ensures IsSound (priced_from path model routes)
 of_routes path model well None are = fails
 of_routes path model well (Some lists) are = gives (record { well_formed = well; are_lists = are })
 

@@ -21,7 +21,8 @@ pub record IsAnswerOf (model : Model) (o : Option RefineEnd) (answer : Refined) 
   pub first_cost : answer.first_cost ≡ cost model rest.first
   pub report : answer.report ≡ rest.outcome.report
 
-pub of_answer : (model : Model) (o : Option RefineEnd) (given : Option Refined) (answer : Refined) → given ≡ Some answer → option_map answer_in given ≡ option_map (answer_of model) o → IsAnswerOf model o answer
+pub of_answer : (model : Model) (o : Option RefineEnd) (given : Option Refined) (answer : Refined)
+    → given ≡ Some answer → option_map answer_in given ≡ option_map (answer_of model) o → IsAnswerOf model o answer
 of_answer model None given answer is e = let k : Some (answer_in answer) ≡ None = sym (ap (option_map answer_in) is) ∙ e in absurd cc
 of_answer model (Some rest) given answer is e =
     let k : Some (answer_in answer) ≡ Some (answer_of model rest) = sym (ap (option_map answer_in) is) ∙ e in
@@ -29,7 +30,8 @@ of_answer model (Some rest) given answer is e =
     record { rest = rest; is = refl; best = ap (λ a. a.best) same; first_cost = ap (λ a. a.first_cost) same; report = ap (λ a. a.report) same }
 
 -- its line is that of what is found
-pub line_is : (model : Model) (o : Option RefineEnd) (answer : Refined) (line : List ℕ) → IsAnswerOf model o answer → line ≡ text_line (solution_tree model answer.routes.lists answer.first_cost answer.report)
+pub line_is : (model : Model) (o : Option RefineEnd) (answer : Refined) (line : List ℕ) → IsAnswerOf model o answer
+    → line ≡ text_line (solution_tree model answer.routes.lists answer.first_cost answer.report)
     → Some line ≡ option_map (line_of_found model) (option_map found_at o)
 unfolding line_of_found
 line_is model o answer line is e =
@@ -37,7 +39,8 @@ line_is model o answer line is e =
     ∙ sym (ap (λ o. option_map (line_of_found model) (option_map found_at o)) is.is)
 
 -- if there is a line, the events of what is found are those of the search
-pub events_are : (model : Model) (wish : Wish) (lists : List (List ℕ)) (line : List ℕ) → Some line ≡ option_map (line_of_found model) (refined_with model wish (Some lists))
+pub events_are : (model : Model) (wish : Wish) (lists : List (List ℕ)) (line : List ℕ)
+    → Some line ≡ option_map (line_of_found model) (refined_with model wish (Some lists))
     → found_events (refined_with model wish (Some lists)) ≡ (ruin_end model wish lists).outcome.events
 unfolding refined
 events_are model wish lists line e = by (lack model (ruin_end model wish lists).outcome.best == 0) e

@@ -19,24 +19,29 @@ use Rattle.vr_refine.specs.Reply.{reply, reply_in}
 use Rattle.vr_refine.specs.Words.{is_read, request_of}
 use Rattle.vr_refine.specs.declared.words.Request.{Request}
 use Rattle.vr_refine.specs.declared.words.Request.TheVariants.{Find, Price}
-use Rattle.vr_refine.proofs.PromiseLemmas.{ClassifiesFound, ClassifiesPriced, ClassifiesText, asked-classify, asked-found, asked-refused, read-classify, words-classify, words-price, words-refused}
+use Rattle.vr_refine.proofs.PromiseLemmas.{ClassifiesFound, ClassifiesPriced, ClassifiesText, asked-classify, asked-found, asked-refused, read-classify}
+use Rattle.vr_refine.proofs.PromiseLemmas.{words-classify, words-price, words-refused}
 
 -- accepted words that ask for no price ask for a solution
 pub solution_asked : (words : List (List ℕ)) (it : Request) → request_of words ≡ Some it → it ≢ Price → IsSolutionAsked words
 solution_asked words Price is other = absurd (other refl)
 solution_asked words (Find asked) is other = (asked, is)
 
-module _ {K : Type 0} {written : K → Option (List ℕ)} {faults : K → ℕ} {reports : List Event → List ℕ} {words : List (List ℕ)} {left_before left_after : Option (List ℕ)} {read_faults_before read_faults_after : ℕ} {old new : K} {status : ℕ}
+module _ {K : Type 0} {written : K → Option (List ℕ)} {faults : K → ℕ} {reports : List Event → List ℕ} {words : List (List ℕ)}
+    {left_before left_after : Option (List ℕ)} {read_faults_before read_faults_after : ℕ} {old new : K} {status : ℕ}
     (ran : Ran written faults reports words left_before left_after read_faults_before read_faults_after old new status) where
   -- which inputs have the status
   pub classifies-text : WhereSettled (ReadsInput words) left_before status (λ bytes. ClassifiesText bytes status)
-  classifies-text settled reads bytes known = subst (ClassifiesText bytes) (sym (replies ran.by settled bytes known).status) (read-classify reports words bytes reads)
+  classifies-text settled reads bytes known =
+      subst (ClassifiesText bytes) (sym (replies ran.by settled bytes known).status) (read-classify reports words bytes reads)
 
   pub classifies-priced : WhereSettled (AsksPrice words) left_before status (λ bytes. ClassifiesPriced bytes status)
-  classifies-priced settled asks bytes known = subst (ClassifiesPriced bytes) (sym (replies ran.by settled bytes known).status) (words-classify reports words bytes asks)
+  classifies-priced settled asks bytes known =
+      subst (ClassifiesPriced bytes) (sym (replies ran.by settled bytes known).status) (words-classify reports words bytes asks)
 
   pub classifies-found : (asked : Mode) → WhereSettled (IsAskedFor asked words) left_before status (λ bytes. ClassifiesFound asked bytes status)
-  classifies-found asked settled asks bytes known = subst (ClassifiesFound asked bytes) (sym (replies ran.by settled bytes known).status) (asked-classify reports words bytes asked asks)
+  classifies-found asked settled asks bytes known =
+      subst (ClassifiesFound asked bytes) (sym (replies ran.by settled bytes known).status) (asked-classify reports words bytes asked asks)
 
   -- which texts are written
   pub price : status ≡ 0 → AsksPrice words → WhereKnown left_before (λ bytes. (text : List ℕ) × IsPricedBy bytes text × Took (written old) (written new) text)
@@ -49,16 +54,21 @@ module _ {K : Type 0} {written : K → Option (List ℕ)} {faults : K → ℕ} {
       let r = replies ran.by (settled_by settled_9 e) bytes known in
       ((reply reports words bytes).text, (words-price reports words bytes (not_met_only ran.by e)).faulted (sym r.status ∙ e), r.written)
 
-  pub refusal : status ≡ 5 → AsksPrice words → WhereKnown left_before (λ bytes. (fault : Fault) → HasFault priced_of bytes fault → Took (written old) (written new) (text_line (refused_tree fault)))
-  refusal e asks bytes known fault has = subst (Took (written old) (written new)) (words-refused reports words bytes asks fault has) (replies ran.by (settled_by settled_5 e) bytes known).written
+  pub refusal : status ≡ 5 → AsksPrice words
+      → WhereKnown left_before (λ bytes. (fault : Fault) → HasFault priced_of bytes fault → Took (written old) (written new) (text_line (refused_tree fault)))
+  refusal e asks bytes known fault has =
+      subst (Took (written old) (written new)) (words-refused reports words bytes asks fault has) (replies ran.by (settled_by settled_5 e) bytes known).written
 
-  pub solution : status ≡ 0 → (asked : Mode) → IsAskedFor asked words → WhereKnown left_before (λ bytes. (text : List ℕ) × IsFoundBy asked reports bytes text × Took (written old) (written new) text)
+  pub solution : status ≡ 0 → (asked : Mode) → IsAskedFor asked words
+      → WhereKnown left_before (λ bytes. (text : List ℕ) × IsFoundBy asked reports bytes text × Took (written old) (written new) text)
   solution e asked asks bytes known =
       let r = replies ran.by (settled_by settled_0 e) bytes known in
       ((reply reports words bytes).text, asked-found reports words bytes asked asks (sym r.status ∙ e), r.written)
 
-  pub search_refusal : status ≡ 5 → (asked : Mode) → IsAskedFor asked words → WhereKnown left_before (λ bytes. (fault : Fault) → HasFault given_of bytes fault → Took (written old) (written new) (text_line (refused_tree fault)))
-  search_refusal e asked asks bytes known fault has = subst (Took (written old) (written new)) (asked-refused reports words bytes asked asks fault has) (replies ran.by (settled_by settled_5 e) bytes known).written
+  pub search_refusal : status ≡ 5 → (asked : Mode) → IsAskedFor asked words
+      → WhereKnown left_before (λ bytes. (fault : Fault) → HasFault given_of bytes fault → Took (written old) (written new) (text_line (refused_tree fault)))
+  search_refusal e asked asks bytes known fault has = subst (Took (written old) (written new))
+      (asked-refused reports words bytes asked asks fault has) (replies ran.by (settled_by settled_5 e) bytes known).written
 
   -- of words that are not accepted
   pub usage : IsStatusOfAnswer status → IsNotAccepted words → status ≡ 1

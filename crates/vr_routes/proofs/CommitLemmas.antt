@@ -25,7 +25,8 @@ module _ (tours : Tours) (parts : List ListAfter) (made : IsMadeOn tours parts) 
   after = changed tours.lists parts
 
   kept_after : (x : ℕ) → (times_in x after ≤ times_in x tours.lists) ⊎ ((times_in x after ≤ 1) × IsTrue (is_visit made.model x))
-  kept_after x = subst (λ l. (times_in x l ≤ times_in x tours.lists) ⊎ ((times_in x l ≤ 1) × IsTrue (is_visit made.model x))) (sym made.makes.lists_are) (kept made.model tours.lists made.well_formed made.mv made.is_one x)
+  kept_after x = subst (λ l. (times_in x l ≤ times_in x tours.lists) ⊎ ((times_in x l ≤ 1) × IsTrue (is_visit made.model x)))
+      (sym made.makes.lists_are) (kept made.model tours.lists made.well_formed made.mv made.is_one x)
 
   pub once_after : IsOnce after
   once_after = once_of_times after (λ x. elim (kept_after x) [
@@ -33,11 +34,13 @@ module _ (tours : Tours) (parts : List ListAfter) (made : IsMadeOn tours parts) 
     | inr new ↦ new.0
   ])
 
-  pub entry_after : ((x : ℕ) → IsTrue (is_active tours.lists x) → IsTrue (holds tours.visits x)) → (x : ℕ) → IsTrue (is_active after x) → IsTrue (holds tours.visits x)
+  pub entry_after : ((x : ℕ) → IsTrue (is_active tours.lists x) → IsTrue (holds tours.visits x))
+      → (x : ℕ) → IsTrue (is_active after x) → IsTrue (holds tours.visits x)
   entry_after before x active =
       let s = seat_of_active after x active in
       let one = times_of_seat after x s.0 s.1 s.2 in
       elim (kept_after x) [
-        | inl less ↦ (let b = one_seat_of x tours.lists (omega (arith, one, less)) in before x (active_at tours.lists x b.0 b.1 b.2.vehicle b.2.place b.2.found))
+        | inl less ↦ (let b = one_seat_of x tours.lists (omega (arith, one, less)) in
+            before x (active_at tours.lists x b.0 b.1 b.2.vehicle b.2.place b.2.found))
         | inr new ↦ subst (λ l. IsTrue (holds l x)) made.visits_are (visit_held made.model x new.1)
       ]

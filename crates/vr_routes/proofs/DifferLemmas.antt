@@ -33,7 +33,8 @@ pub replaced_differs : (xs : List ℕ) (a y : ℕ) → a < length xs → y ≢ s
 replaced_differs xs a y low other e = other (sym (get_or-set_same xs a y 0 low) ∙ ap (λ l. slice_index l a) e)
 
 -- the front of a list takes the place of that of another
-pub joined_differs : (xs ys : List ℕ) (a b : ℕ) → a ≤ length xs → b ≤ length ys → (a ≡ 0 → b ≡ 0 → ⊥) → (0 < length ys → 0 < length xs → slice_index ys 0 ≡ slice_index xs 0 → ⊥)
+pub joined_differs : (xs ys : List ℕ) (a b : ℕ) → a ≤ length xs → b ≤ length ys
+    → (a ≡ 0 → b ≡ 0 → ⊥) → (0 < length ys → 0 < length xs → slice_index ys 0 ≡ slice_index xs 0 → ⊥)
     → take b ys ++ drop a xs ≢ xs
 joined_differs xs ys a b front other some apart e =
     let long = ap length e in
@@ -62,7 +63,8 @@ unpaired_differs pair xs k low found e =
     omega (arith, some, none, same)
 
 -- no node stands in two lists
-pub apart_between : (model : Model) (lists : List (List ℕ)) → IsTrue (are_lists model lists) → (v w j k : ℕ) → v ≢ w → j < length (route lists v) → k < length (route lists w) → slice_index (route lists v) j ≡ slice_index (route lists w) k → ⊥
+pub apart_between : (model : Model) (lists : List (List ℕ)) → IsTrue (are_lists model lists) → (v w j k : ℕ) → v ≢ w
+    → j < length (route lists v) → k < length (route lists w) → slice_index (route lists v) j ≡ slice_index (route lists w) k → ⊥
 apart_between model lists are v w j k apart low next e =
     let x : ℕ = slice_index (route lists w) k in
     let here = at_least_one x (route lists v) j low e in

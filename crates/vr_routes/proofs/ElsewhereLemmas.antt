@@ -1,5 +1,6 @@
 -- Pairs that are served, and those that are put elsewhere.
-use Rattle.std.proofs.Common.{◌≡◌, ◌≢◌, ◌∙◌, ℕ, zero, suc, ◌+◌, ◌-◌, ◌<◌, ◌≤◌, Bool, true, false, cond, not, ◌&&◌, List, [], ◌∷◌, ◌++◌, length, map, take, drop, refl, sym, ap, subst, inl, inr, arith, append_assoc, length-set}
+use Rattle.std.proofs.Common.{◌≡◌, ◌≢◌, ◌∙◌, ℕ, zero, suc, ◌+◌, ◌-◌, ◌<◌, ◌≤◌, Bool, true, false, cond, not, ◌&&◌, List, [], ◌∷◌, ◌++◌, length, map, take, drop}
+use Rattle.std.proofs.Common.{refl, sym, ap, subst, inl, inr, arith, append_assoc, length-set}
 use Rattle.std.specs.Prelude.{IsTrue, ◌==◌, nat_lt, nat_le, slice_index, slice_range, slice_set}
 use Rattle.std.proofs.lemmas.Bool.{cases_lt}
 use Rattle.std.proofs.lemmas.Bool.Decides.{eqb_tells}
@@ -24,10 +25,12 @@ use Rattle.vr_routes.proofs.RestLemmas.{two_fewer}
 
 -- ---- pairs that are served
 
-before_places : (xs : List ℕ) (x y : ℕ) → IsTrue (comes_before xs x y) → (k : ℕ) × (j : ℕ) × (k < j) × (j < length xs) × (slice_index xs k ≡ x) × (slice_index xs j ≡ y)
+before_places : (xs : List ℕ) (x y : ℕ) → IsTrue (comes_before xs x y)
+    → (k : ℕ) × (j : ℕ) × (k < j) × (j < length xs) × (slice_index xs k ≡ x) × (slice_index xs j ≡ y)
 before_places [] x y h = absurd (clash false h refl)
 before_places (z ∷ zs) x y h = elim (eqb_tells z x) [
-  | inl here ↦ (let p = place_of_held zs y (subst (λ t. IsTrue (cond t (holds zs y) (comes_before zs x y))) here.0 h) in (0, suc p.0, omega arith, (let low = p.1 in omega (arith, low)), here.1, p.2))
+  | inl here ↦ (let p = place_of_held zs y (subst (λ t. IsTrue (cond t (holds zs y) (comes_before zs x y))) here.0 h) in
+      (0, suc p.0, omega arith, (let low = p.1 in omega (arith, low)), here.1, p.2))
   | inr other ↦ (let r = before_places zs x y (subst (λ t. IsTrue (cond t (holds zs y) (comes_before zs x y))) other.0 h) in
       (suc r.0, suc r.1, (let order = r.2 in omega (arith, order)), (let low = r.3 in omega (arith, low)), r.4, r.5))
 ]
@@ -37,18 +40,27 @@ before_at [] x y k j order low e f = absurd (omega (arith, low))
 before_at (z ∷ zs) x y k zero order low e f = absurd (omega (arith, order))
 before_at (z ∷ zs) x y k (suc j) order low e f = elim (eqb_tells z x) [
   | inl here ↦ subst (λ t. IsTrue (cond t (holds zs y) (comes_before zs x y))) (sym here.0) (held_at zs y j (omega (arith, low)) f)
-  | inr other ↦ subst (λ t. IsTrue (cond t (holds zs y) (comes_before zs x y))) (sym other.0) (later (λ i i_order i_found. before_at zs x y i j i_order (omega (arith, low)) i_found f) k order e other.1)
+  | inr other ↦ subst (λ t. IsTrue (cond t (holds zs y) (comes_before zs x y))) (sym other.0)
+      (later (λ i i_order i_found. before_at zs x y i j i_order (omega (arith, low)) i_found f) k order e other.1)
 ]
   where
-    later : ((i : ℕ) → i < j → slice_index zs i ≡ x → IsTrue (comes_before zs x y)) → (k : ℕ) → k < suc j → slice_index (z ∷ zs) k ≡ x → z ≢ x → IsTrue (comes_before zs x y)
+    later : ((i : ℕ) → i < j → slice_index zs i ≡ x → IsTrue (comes_before zs x y)) → (k : ℕ)
+        → k < suc j → slice_index (z ∷ zs) k ≡ x → z ≢ x → IsTrue (comes_before zs x y)
     later at zero order e differ = absurd (differ e)
     later at (suc k) order e differ = at k (omega (arith, order)) e
 
-order_seats : (lists : List (List ℕ)) (x y : ℕ) → IsTrue (are_in_order lists x y) → (v : ℕ) × (k : ℕ) × (j : ℕ) × (k < j) × IsSeat lists x v k × IsSeat lists y v j
+order_seats : (lists : List (List ℕ)) (x y : ℕ) → IsTrue (are_in_order lists x y)
+    → (v : ℕ) × (k : ℕ) × (j : ℕ) × (k < j) × IsSeat lists x v k × IsSeat lists y v j
 order_seats [] x y h = absurd (clash false h refl)
 order_seats (l ∷ ls) x y h = elim (or_cases (comes_before l x y) _ h) [
-  | inl here ↦ (let p = before_places l x y here in
-      (0, p.0, p.1, p.2, record { vehicle = omega arith; place = (let order = p.2 in let low = p.3 in omega (arith, order, low)); found = p.4 }, record { vehicle = omega arith; place = p.3; found = p.5 }))
+  | inl here ↦ (let p = before_places l x y here in (
+    0,
+    p.0,
+    p.1,
+    p.2,
+    record { vehicle = omega arith; place = (let order = p.2 in let low = p.3 in omega (arith, order, low)); found = p.4 },
+    record { vehicle = omega arith; place = p.3; found = p.5 },
+  ))
   | inr later ↦ (let r = order_seats ls x y later in (
     suc r.0,
     r.1,
@@ -68,7 +80,8 @@ order_at (l ∷ ls) x y (suc v) k j order a b = or_right (comes_before l x y) _ 
 
 -- a pair that is not together is not served
 pub apart_not_served : (lists : List (List ℕ)) (x y : ℕ) → are_together lists x y ≡ false → are_in_order lists x y ≡ false
-apart_not_served lists x y apart = fails (are_in_order lists x y) (λ h. let s = order_seats lists x y h in clash (are_together lists x y) (together_at lists x y s.0 s.1 s.2 s.4 s.5) apart)
+apart_not_served lists x y apart =
+    fails (are_in_order lists x y) (λ h. let s = order_seats lists x y h in clash (are_together lists x y) (together_at lists x y s.0 s.1 s.2 s.4 s.5) apart)
 
 pub is_behind : (k j : ℕ) → j ≤ k → nat_lt k j ≡ false
 is_behind k j low = Prim.grind arith
@@ -184,7 +197,9 @@ put_back pair xs lo hi order low p d =
     third : drop mid rest ≡ drop (suc hi) xs
     third =
         ap (drop mid) (sym (append_assoc (take lo xs) (slice_range xs (suc lo) hi) (drop (suc hi) xs)))
-        ∙ past (take lo xs ++ slice_range xs (suc lo) hi) (drop (suc hi) xs) mid (let e : length (take lo xs ++ slice_range xs (suc lo) hi) ≡ hi - 1 = omega (arith, length-append (take lo xs) (slice_range xs (suc lo) hi), front_is, inner_is, order) in e)
+        ∙ past (take lo xs ++ slice_range xs (suc lo) hi) (drop (suc hi) xs) mid
+        (let e : length (take lo xs ++ slice_range xs (suc lo) hi) ≡ hi - 1 =
+        omega (arith, length-append (take lo xs) (slice_range xs (suc lo) hi), front_is, inner_is, order) in e)
 
 -- ---- a pair that is put elsewhere
 
@@ -204,11 +219,13 @@ module _ (lists : List (List ℕ)) (pair : Pair) (once : IsOnce lists) (v lo hi 
 
   -- another list holds neither node
   pub others_stay : (w : ℕ) → w < length lists → w ≢ v → without_pair pair (route lists w) ≡ route lists w
-  others_stay w low other = nothing_out pair (route lists w) (none_in_others pair.pickup w lo places.pickup_stands low other) (none_in_others pair.delivery w hi places.delivery_stands low other)
+  others_stay w low other = nothing_out pair (route lists w) (none_in_others pair.pickup w lo places.pickup_stands low other)
+      (none_in_others pair.delivery w hi places.delivery_stands low other)
 
   -- the list of the pair has two fewer
   pub own_rest : (w : ℕ) → w ≡ v → length (without_pair pair (route lists w)) + 2 ≡ length (route lists w)
-  own_rest w same = ap (λ u. length (without_pair pair (route lists u)) + 2) same ∙ ap (λ l. length l + 2) gap.list_without ∙ two_fewer (route lists v) lo hi order gap.place ∙ ap (λ u. length (route lists u)) (sym same)
+  own_rest w same = ap (λ u. length (without_pair pair (route lists u)) + 2) same ∙ ap (λ l. length l + 2) gap.list_without
+      ∙ two_fewer (route lists v) lo hi order gap.place ∙ ap (λ u. length (route lists u)) (sym same)
 
   -- the lists after the pair is put into its own list, and into another
   pub moved_within : (w s t : ℕ) → w ≡ v → slice_set lists w (with_pair pair s t (without_two (route lists w) lo hi))
@@ -281,13 +298,16 @@ module _ (lists : List (List ℕ)) (pair : Pair) (once : IsOnce lists) (v lo hi 
       back : IsTrue ((w == v) && ((s == lo) && (t == (hi - 1)))) → IsTrue (is_same (with_pair pair s t (without_pair pair (route lists w))) (route lists w))
       back h =
           let rest = and_right (w == v) _ h in
-          let e = back_at w s t (eq_of_test w v (and_left (w == v) _ h)) (eq_of_test s lo (and_left (s == lo) _ rest)) (eq_of_test t (hi - 1) (and_right (s == lo) _ rest)) in
+          let e = back_at w s t (eq_of_test w v (and_left (w == v) _ h))
+          (eq_of_test s lo (and_left (s == lo) _ rest)) (eq_of_test t (hi - 1) (and_right (s == lo) _ rest)) in
           subst (λ l. IsTrue (is_same l (route lists w))) (sym e) (test_of_same (route lists w))
 
 -- ---- the numbers of a pair that is put somewhere
 
-pub may_put : (model : Model) (lists : List (List ℕ)) (p w n s t : ℕ) → p < length model.pairs → w < length lists → s ≤ t → t ≤ n → may_put_pair model lists p w n s t ≡ true
-may_put model lists p w n s t low_p low order gap = and_both (nat_lt p (length model.pairs)) _ pair (and_both (is_vehicle lists w) _ vehicle (and_both (nat_le s t) _ first last))
+pub may_put : (model : Model) (lists : List (List ℕ)) (p w n s t : ℕ) → p < length model.pairs
+    → w < length lists → s ≤ t → t ≤ n → may_put_pair model lists p w n s t ≡ true
+may_put model lists p w n s t low_p low order gap =
+    and_both (nat_lt p (length model.pairs)) _ pair (and_both (is_vehicle lists w) _ vehicle (and_both (nat_le s t) _ first last))
   where
     pair : IsTrue (nat_lt p (length model.pairs))
     pair = Prim.grind arith

@@ -8,7 +8,8 @@ use Rattle.vr_model.specs.moves.Moves.{is_pair_inactive, is_pair_served, without
 use Rattle.vr_model.specs.moves.MoveTests.{is_vehicle, is_place, is_gap, is_inactive, may_put_pair, is_move}
 use Rattle.vr_routes.specs.Places.{AreCuts, AreNodeAndGap, AreTwoNodes, AreTwoPlaces}
 use Rattle.vr_model.specs.declared.records.Model.{Model}
-use Rattle.vr_model.specs.declared.neighbours.Move.TheVariants.{TwoOpt, OrOpt, Relocate, Exchange, Cross, MakeActive, MakeInactive, SwapActive, PairActive, RelocatePair}
+use Rattle.vr_model.specs.declared.neighbours.Move.TheVariants.{TwoOpt, OrOpt, Relocate, Exchange, Cross, MakeActive, MakeInactive, SwapActive, PairActive}
+use Rattle.vr_model.specs.declared.neighbours.Move.TheVariants.{RelocatePair}
 
 module _ (model : Model) (lists : List (List ℕ)) where
   differ : (v w : ℕ) → (v == w) ≡ false → v ≢ w
@@ -27,13 +28,22 @@ module _ (model : Model) (lists : List (List ℕ)) where
   of_or_opt v a k t h = record { vehicle = Prim.grind arith; few = Prim.grind arith; chain = Prim.grind arith; gap = Prim.grind arith }
 
   pub of_relocate : (v a w t : ℕ) → is_move model lists (Relocate v a w t) ≡ true → AreNodeAndGap lists v a w t
-  of_relocate v a w t h = record { vehicle = Prim.grind arith; other = Prim.grind arith; apart = differ v w (Prim.grind arith); place = Prim.grind arith; gap = Prim.grind arith }
+  of_relocate v a w t h =
+      record { vehicle = Prim.grind arith; other = Prim.grind arith; apart = differ v w (Prim.grind arith); place = Prim.grind arith; gap = Prim.grind arith }
 
   pub of_exchange : (v a w b : ℕ) → is_move model lists (Exchange v a w b) ≡ true → AreTwoNodes lists v a w b
-  of_exchange v a w b h = record { vehicle = Prim.grind arith; other = Prim.grind arith; place = Prim.grind arith; other_place = Prim.grind arith; behind = λ e. Prim.grind arith }
+  of_exchange v a w b h =
+      record { vehicle = Prim.grind arith; other = Prim.grind arith; place = Prim.grind arith; other_place = Prim.grind arith; behind = λ e. Prim.grind arith }
 
   pub of_cross : (v a w b : ℕ) → is_move model lists (Cross v a w b) ≡ true → AreCuts lists v a w b
-  of_cross v a w b h = record { vehicle = Prim.grind arith; other = Prim.grind arith; apart = λ e. Prim.grind arith; gap = Prim.grind arith; other_gap = Prim.grind arith; some = λ e f. Prim.grind arith }
+  of_cross v a w b h = record {
+    vehicle = Prim.grind arith;
+    other = Prim.grind arith;
+    apart = λ e. Prim.grind arith;
+    gap = Prim.grind arith;
+    other_gap = Prim.grind arith;
+    some = λ e f. Prim.grind arith;
+  }
 
   pub record PlaceFacts (v a : ℕ) : Type 0 where
     pub vehicle : v < length lists
@@ -72,7 +82,8 @@ module _ (model : Model) (lists : List (List ℕ)) where
   pub of_pair_active : (p w s t : ℕ) → is_move model lists (PairActive p w s t) ≡ true → PairFacts p w (length (route lists w)) s t
   of_pair_active p w s t h = of_numbers p w (length (route lists w)) s t (and_right (is_pair_inactive model lists p) _ h)
 
-  pub of_relocate_pair : (p w s t : ℕ) → is_move model lists (RelocatePair p w s t) ≡ true → PairFacts p w (length (without_pair (pair_at model p) (route lists w))) s t
+  pub of_relocate_pair : (p w s t : ℕ) → is_move model lists (RelocatePair p w s t) ≡ true
+      → PairFacts p w (length (without_pair (pair_at model p) (route lists w))) s t
   of_relocate_pair p w s t h =
       let n = length (without_pair (pair_at model p) (route lists w)) in
       of_numbers p w n s t (and_left (may_put_pair model lists p w n s t) _ (and_right (is_pair_served model lists p) _ h))

@@ -15,7 +15,8 @@ use Rattle.vr_routes.proofs.TourLemmas.{set_twice}
 use Rattle.vr_model.proofs.moves.Times.{times_set}
 use Rattle.vr_routes.proofs.OnceLemmas.{few_times, once_of_times}
 
-module _ (n : ℕ) (lists : List (List ℕ)) (once : IsOnce lists) (have : HaveNodes n lists) (v : ℕ) (low : v < length lists) (list : List ℕ) (same : route lists v ≡ list) where
+module _ (n : ℕ) (lists : List (List ℕ)) (once : IsOnce lists) (have : HaveNodes n lists)
+    (v : ℕ) (low : v < length lists) (list : List ℕ) (same : route lists v ≡ list) where
   seat : (k : ℕ) → k < length list → IsSeat lists (slice_index list k) v k
   seat k k_low = record { vehicle = low; place = subst (λ l. k < length l) (sym same) k_low; found = ap (λ l. slice_index l k) same }
 
@@ -46,14 +47,18 @@ set_commute (z ∷ zs) (suc i) zero x y apart = refl
 set_commute (z ∷ zs) (suc i) (suc j) x y apart = ap (λ l. z ∷ l) (set_commute zs i j x y (λ e. apart (ap suc e)))
 
 pub once_without : (lists : List (List ℕ)) (w : ℕ) → w < length lists → IsOnce lists → IsOnce (slice_set lists w [])
-once_without lists w low once = once_of_times (slice_set lists w []) (λ x. let whole = times_set x lists w [] low in let few = few_times x lists (once x) in omega (arith, whole, few))
+once_without lists w low once =
+    once_of_times (slice_set lists w []) (λ x. let whole = times_set x lists w [] low in let few = few_times x lists (once x) in omega (arith, whole, few))
 
 -- two lists, of which one is emptied first
-pub emptied : (lists : List (List ℕ)) (v w : ℕ) (nodes others : List ℕ) → v ≢ w → slice_set (slice_set (slice_set lists v nodes) w others) w [] ≡ slice_set (slice_set lists w []) v nodes
+pub emptied : (lists : List (List ℕ)) (v w : ℕ) (nodes others : List ℕ) → v ≢ w
+    → slice_set (slice_set (slice_set lists v nodes) w others) w [] ≡ slice_set (slice_set lists w []) v nodes
 emptied lists v w nodes others apart = set_twice (slice_set lists v nodes) w others [] ∙ set_commute lists v w nodes [] apart
 
-pub written_in_turn : (lists : List (List ℕ)) (v w : ℕ) (nodes others : List ℕ) → v ≢ w → slice_set (slice_set (slice_set lists w []) v nodes) w others ≡ slice_set (slice_set lists v nodes) w others
-written_in_turn lists v w nodes others apart = ap (λ l. slice_set l w others) (sym (set_commute lists v w nodes [] apart)) ∙ set_twice (slice_set lists v nodes) w [] others
+pub written_in_turn : (lists : List (List ℕ)) (v w : ℕ) (nodes others : List ℕ) → v ≢ w
+    → slice_set (slice_set (slice_set lists w []) v nodes) w others ≡ slice_set (slice_set lists v nodes) w others
+written_in_turn lists v w nodes others apart = ap (λ l. slice_set l w others) (sym (set_commute lists v w nodes [] apart))
+    ∙ set_twice (slice_set lists v nodes) w [] others
 
 -- what a change that may be made gives the vehicle of its one part
 pub record IsGiven (seated : Seated) (part : ListAfter) : Type 0 where

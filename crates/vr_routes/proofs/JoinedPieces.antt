@@ -32,9 +32,11 @@ all_right P xs ys h = subst (λ zs. All P zs) (drop-append_seam xs ys) (All-drop
 pub all_so_far : (P : ℕ → Type 0) (lists : List (List ℕ)) (pieces : List Piece) (k : ℕ) → All P (joined lists pieces) → All P (joined lists (take k pieces))
 all_so_far P lists pieces k h = all_left P (joined lists (take k pieces)) (joined lists (drop k pieces)) (subst (λ xs. All P xs) (joined_rest lists pieces k) h)
 
-pub all_at : (P : ℕ → Type 0) (lists : List (List ℕ)) (pieces : List Piece) (k : ℕ) (other : Piece) → k < length pieces → All P (joined lists pieces) → All P (nodes_of lists (slice_index_or pieces k other))
+pub all_at : (P : ℕ → Type 0) (lists : List (List ℕ)) (pieces : List Piece) (k : ℕ) (other : Piece)
+    → k < length pieces → All P (joined lists pieces) → All P (nodes_of lists (slice_index_or pieces k other))
 all_at P lists pieces k other low h =
-    all_right P (joined lists (take k pieces)) (nodes_of lists (slice_index_or pieces k other)) (subst (λ xs. All P xs) (joined_next lists pieces k other low) (all_so_far P lists pieces (k + 1) h))
+    all_right P (joined lists (take k pieces)) (nodes_of lists (slice_index_or pieces k other))
+    (subst (λ xs. All P xs) (joined_next lists pieces k other low) (all_so_far P lists pieces (k + 1) h))
 
 -- a list is empty where it has no length
 pub empty_by_length : (list : List ℕ) → (length list == 0) ≡ is_empty list

@@ -36,7 +36,8 @@ joined_active lists x held =
 
 -- ---- lists of a model
 
-pub are_lists_of : (model : Model) (lists : List (List ℕ)) → length lists ≡ length model.vehicles → HaveVisits model lists → IsOnce lists → are_lists model lists ≡ true
+pub are_lists_of : (model : Model) (lists : List (List ℕ)) → length lists ≡ length model.vehicles
+    → HaveVisits model lists → IsOnce lists → are_lists model lists ≡ true
 are_lists_of model lists many visits once =
     and_both (length lists == length model.vehicles) _ (test_of_eq (length lists) (length model.vehicles) many)
     (and_both (list_all (is_visit model) (concat lists)) _ (all_of_held (is_visit model) (concat lists) (λ x held. visits x (joined_active lists x held)))
@@ -47,18 +48,21 @@ many_of model lists h = eq_of_test (length lists) (length model.vehicles) (and_l
 
 pub visits_of : (model : Model) (lists : List (List ℕ)) → IsTrue (are_lists model lists) → HaveVisits model lists
 visits_of model lists h x active =
-    all_held (is_visit model) (concat lists) (and_left (list_all (is_visit model) (concat lists)) _ (and_right (length lists == length model.vehicles) _ h)) x (active_joined lists x active)
+    all_held (is_visit model) (concat lists)
+    (and_left (list_all (is_visit model) (concat lists)) _ (and_right (length lists == length model.vehicles) _ h)) x (active_joined lists x active)
 
 pub once_of : (model : Model) (lists : List (List ℕ)) → IsTrue (are_lists model lists) → IsOnce lists
 once_of model lists h = once_of_times lists (λ x.
-    let few = times_of_distinct (concat lists) (and_right (list_all (is_visit model) (concat lists)) _ (and_right (length lists == length model.vehicles) _ h)) x in
+    let few = times_of_distinct (concat lists)
+    (and_right (list_all (is_visit model) (concat lists)) _ (and_right (length lists == length model.vehicles) _ h)) x in
     let same = joined_times x lists in
     omega (arith, few, same))
 
 -- ---- lists of which some stand already
 
 -- lists of which some are empty and the others those of the whole
-pub part_seat : (whole part : List (List ℕ)) → length part ≡ length whole → ((w : ℕ) → (route part w ≡ route whole w) ⊎ (route part w ≡ [])) → (x w k : ℕ) → IsSeat part x w k → IsSeat whole x w k
+pub part_seat : (whole part : List (List ℕ)) → length part ≡ length whole
+    → ((w : ℕ) → (route part w ≡ route whole w) ⊎ (route part w ≡ [])) → (x w k : ℕ) → IsSeat part x w k → IsSeat whole x w k
 part_seat whole part many some x w k s = elim (some w) [
   | inl same ↦ record {
     vehicle = (let low = s.vehicle in omega (arith, low, many));
@@ -68,20 +72,24 @@ part_seat whole part many some x w k s = elim (some w) [
   | inr empty ↦ absurd (let place = s.place in let none : length (route part w) ≡ 0 = ap length empty in omega (arith, place, none))
 ]
 
-pub part_once : (whole part : List (List ℕ)) → length part ≡ length whole → ((w : ℕ) → (route part w ≡ route whole w) ⊎ (route part w ≡ [])) → IsOnce whole → IsOnce part
+pub part_once : (whole part : List (List ℕ)) → length part ≡ length whole
+    → ((w : ℕ) → (route part w ≡ route whole w) ⊎ (route part w ≡ [])) → IsOnce whole → IsOnce part
 part_once whole part many some once x v k w j a b = once x v k w j (part_seat whole part many some x v k a) (part_seat whole part many some x w j b)
 
-pub part_visits : (model : Model) (whole part : List (List ℕ)) → length part ≡ length whole → ((w : ℕ) → (route part w ≡ route whole w) ⊎ (route part w ≡ [])) → HaveVisits model whole → HaveVisits model part
+pub part_visits : (model : Model) (whole part : List (List ℕ)) → length part ≡ length whole
+    → ((w : ℕ) → (route part w ≡ route whole w) ⊎ (route part w ≡ [])) → HaveVisits model whole → HaveVisits model part
 part_visits model whole part many some visits x active =
     let s = seat_of_active part x active in
     let there = part_seat whole part many some x s.0 s.1 s.2 in
     visits x (active_at whole x s.0 s.1 there.vehicle there.place there.found)
 
 -- the list of the next vehicle is put behind the lists before it
-pub next_part : (whole now : List (List ℕ)) (v : ℕ) → length now ≡ length whole → v < length whole → ((w : ℕ) → w < v → route now w ≡ route whole w) → ((w : ℕ) → v ≤ w → route now w ≡ [])
+pub next_part : (whole now : List (List ℕ)) (v : ℕ) → length now ≡ length whole → v < length whole
+    → ((w : ℕ) → w < v → route now w ≡ route whole w) → ((w : ℕ) → v ≤ w → route now w ≡ [])
     → (w : ℕ) → (route (slice_set now v (route now v ++ route whole v)) w ≡ route whole w) ⊎ (route (slice_set now v (route now v ++ route whole v)) w ≡ [])
 next_part whole now v many low done left w = elim (eqb_tells w v) [
-  | inl same ↦ inl (ap (route (slice_set now v (route now v ++ route whole v))) same.1 ∙ route_set_same now v (route now v ++ route whole v) (omega (arith, low, many))
+  | inl same ↦
+      inl (ap (route (slice_set now v (route now v ++ route whole v))) same.1 ∙ route_set_same now v (route now v ++ route whole v) (omega (arith, low, many))
       ∙ ap (λ l. l ++ route whole v) (left v (omega arith)) ∙ ap (route whole) (sym same.1))
   | inr other ↦ elim (cases_lt w v) [
     | inl before ↦ inl (route_set_other now v w (route now v ++ route whole v) other.1 ∙ done w before)
@@ -95,7 +103,8 @@ pub next_free : (old now : List (List ℕ)) (v i : ℕ) (list : List ℕ) → v 
 next_free old now v i list low e i_low once =
     let front : List ℕ = route old v in
     ap (is_active now) (sym (get_or-append-add front list i 0))
-    ∙ next_inactive old now v (length front + i) (front ++ list) low (e ∙ ap (slice_set old v) (sym (take-append-add front list i))) (omega (arith, i_low, length-append front list)) once
+    ∙ next_inactive old now v (length front + i) (front ++ list) low
+    (e ∙ ap (slice_set old v) (sym (take-append-add front list i))) (omega (arith, i_low, length-append front list)) once
 
 -- and it is a visit, where all are
 pub next_visit : (model : Model) (old : List (List ℕ)) (v i : ℕ) (list : List ℕ) → v < length old → i < length list
@@ -110,23 +119,27 @@ next_visit model old v i list low i_low visits =
 
 -- ---- lists that are cleared where they are others, and filled again
 
-one_set : (P : ℕ → List ℕ → Type 0) (now : List (List ℕ)) (v : ℕ) (list : List ℕ) → v < length now → P v list → (w : ℕ) → P w (route now w) → P w (route (slice_set now v list) w)
+one_set : (P : ℕ → List ℕ → Type 0) (now : List (List ℕ)) (v : ℕ) (list : List ℕ)
+    → v < length now → P v list → (w : ℕ) → P w (route now w) → P w (route (slice_set now v list) w)
 one_set P now v list low here w there = elim (eqb_tells w v) [
   | inl same ↦ subst (λ u. P u (route (slice_set now v list) u)) (sym same.1) (subst (P v) (sym (route_set_same now v list low)) here)
   | inr other ↦ subst (P w) (sym (route_set_other now v w list other.1)) there
 ]
 
 -- one list more is that which is wanted, or empty
-pub one_cleared : (whole now : List (List ℕ)) (v : ℕ) (left : List ℕ) → v < length now → IsSameOrEmpty (route whole v) left → ((w : ℕ) → w < v → IsSameOrEmpty (route whole w) (route now w))
+pub one_cleared : (whole now : List (List ℕ)) (v : ℕ) (left : List ℕ) → v < length now
+    → IsSameOrEmpty (route whole v) left → ((w : ℕ) → w < v → IsSameOrEmpty (route whole w) (route now w))
     → (w : ℕ) → w < v + 1 → IsSameOrEmpty (route whole w) (route (slice_set now v left) w)
 one_cleared whole now v left low is done w w_low = elim (cases_lt w v) [
   | inl before ↦ one_set (λ u l. IsSameOrEmpty (route whole u) l) now v left low is w (done w before)
   | inr from ↦ (let same : v ≡ w = omega (arith, w_low, from) in
-      subst (λ u. IsSameOrEmpty (route whole u) (route (slice_set now v left) u)) same (subst (IsSameOrEmpty (route whole v)) (sym (route_set_same now v left low)) is))
+      subst (λ u. IsSameOrEmpty (route whole u) (route (slice_set now v left) u)) same
+      (subst (IsSameOrEmpty (route whole v)) (sym (route_set_same now v left low)) is))
 ]
 
 -- one list more is that which is wanted
-pub one_filled : (whole now : List (List ℕ)) (v : ℕ) → v < length now → ((w : ℕ) → w < v → route now w ≡ route whole w) → (w : ℕ) → w < v + 1 → route (slice_set now v (route whole v)) w ≡ route whole w
+pub one_filled : (whole now : List (List ℕ)) (v : ℕ) → v < length now → ((w : ℕ) → w < v → route now w ≡ route whole w)
+    → (w : ℕ) → w < v + 1 → route (slice_set now v (route whole v)) w ≡ route whole w
 one_filled whole now v low done w w_low = elim (cases_lt w v) [
   | inl before ↦ one_set (λ u l. l ≡ route whole u) now v (route whole v) low refl w (done w before)
   | inr from ↦ (let same : v ≡ w = omega (arith, w_low, from) in
@@ -146,7 +159,8 @@ done_or_left whole now v done left w _ = elim (cases_lt w v) [
 ]
 
 -- no node stands twice in them
-pub filled_once : (whole now : List (List ℕ)) (v : ℕ) → length now ≡ length whole → v < length whole → ((w : ℕ) → w < length whole → IsSameOrEmpty (route whole w) (route now w)) → IsOnce whole
+pub filled_once : (whole now : List (List ℕ)) (v : ℕ) → length now ≡ length whole → v < length whole
+    → ((w : ℕ) → w < length whole → IsSameOrEmpty (route whole w) (route now w)) → IsOnce whole
     → IsOnce (slice_set now v (route whole v))
 filled_once whole now v many low some once = part_once whole (slice_set now v (route whole v)) (length-set now v (route whole v) ∙ many) each once
   where

@@ -33,16 +33,19 @@ both_seats (l ∷ ls) x y h = elim (or_cases (holds l x && holds l y) _ h) [
 
 pub together_at : (lists : List (List ℕ)) (x y v k j : ℕ) → IsSeat lists x v k → IsSeat lists y v j → IsTrue (are_together lists x y)
 together_at [] x y v k j a b = absurd (let low = a.vehicle in omega (arith, low))
-together_at (l ∷ ls) x y zero k j a b = or_left (holds l x && holds l y) _ (and_both (holds l x) _ (held_at l x k a.place a.found) (held_at l y j b.place b.found))
+together_at (l ∷ ls) x y zero k j a b =
+    or_left (holds l x && holds l y) _ (and_both (holds l x) _ (held_at l x k a.place a.found) (held_at l y j b.place b.found))
 together_at (l ∷ ls) x y (suc v) k j a b = or_right (holds l x && holds l y) _ (together_at ls x y v k j
     (record { vehicle = (let low = a.vehicle in omega (arith, low)); place = a.place; found = a.found })
     (record { vehicle = (let low = b.vehicle in omega (arith, low)); place = b.place; found = b.found }))
 
 pub apart_first : (lists : List (List ℕ)) (x y : ℕ) → is_active lists x ≡ false → are_together lists x y ≡ false
-apart_first lists x y none = fails (are_together lists x y) (λ h. let s = both_seats lists x y h in clash (is_active lists x) (active_at lists x s.0 s.1 s.3.vehicle s.3.place s.3.found) none)
+apart_first lists x y none = fails (are_together lists x y)
+    (λ h. let s = both_seats lists x y h in clash (is_active lists x) (active_at lists x s.0 s.1 s.3.vehicle s.3.place s.3.found) none)
 
 pub apart_second : (lists : List (List ℕ)) (x y : ℕ) → is_active lists y ≡ false → are_together lists x y ≡ false
-apart_second lists x y none = fails (are_together lists x y) (λ h. let s = both_seats lists x y h in clash (is_active lists y) (active_at lists y s.0 s.2 s.4.vehicle s.4.place s.4.found) none)
+apart_second lists x y none = fails (are_together lists x y)
+    (λ h. let s = both_seats lists x y h in clash (is_active lists y) (active_at lists y s.0 s.2 s.4.vehicle s.4.place s.4.found) none)
 
 pub together_tells : (lists : List (List ℕ)) (x y v k w j : ℕ) → IsOnce lists → IsSeat lists x v k → IsSeat lists y w j → are_together lists x y ≡ (v == w)
 together_tells lists x y v k w j once a b = elim (eqb_tells v w) [
@@ -53,6 +56,8 @@ together_tells lists x y v k w j once a b = elim (eqb_tells v w) [
 ]
 
 -- the two nodes of a pair stand at two places
-pub places_apart : (model : Model) (p : ℕ) (lists : List (List ℕ)) (v k j : ℕ) → IsWellFormed model → p < length model.pairs → ArePairPlaces lists (pair_at model p) v k j → k ≢ j
+pub places_apart : (model : Model) (p : ℕ) (lists : List (List ℕ)) (v k j : ℕ) → IsWellFormed model
+    → p < length model.pairs → ArePairPlaces lists (pair_at model p) v k j → k ≢ j
 places_apart model p lists v k j well low places same =
-    pair_apart model.pairs p low well.no_node_in_pairs_twice (sym places.pickup_stands.found ∙ ap (slice_index (route lists v)) same ∙ places.delivery_stands.found)
+    pair_apart model.pairs p low well.no_node_in_pairs_twice
+    (sym places.pickup_stands.found ∙ ap (slice_index (route lists v)) same ∙ places.delivery_stands.found)

@@ -1,5 +1,6 @@
 -- Slices that are joined again.
-use Rattle.std.proofs.Common.{◌≡◌, ◌∙◌, ℕ, zero, suc, ◌+◌, ◌-◌, ◌<◌, ◌≤◌, List, [], ◌∷◌, ◌++◌, length, refl, sym, ap, arith, take, drop, append_assoc, add-one, length-set}
+use Rattle.std.proofs.Common.{◌≡◌, ◌∙◌, ℕ, zero, suc, ◌+◌, ◌-◌, ◌<◌, ◌≤◌, List, [], ◌∷◌, ◌++◌, length, refl, sym, ap, arith, take, drop, append_assoc, add-one}
+use Rattle.std.proofs.Common.{length-set}
 use Rattle.std.specs.Prelude.{slice_range, slice_set, insert, remove}
 use Rattle.std.proofs.lemmas.Slice.{between_to_end, between_is, between_from_start}
 use Rattle.std.proofs.lemmas.List.{set_split, take-append-le, drop-append-le, drop-set-lt, length-take-le, length-append}
@@ -31,7 +32,8 @@ take_of_take [] (suc t) (suc a) low = refl
 take_of_take (x ∷ xs) (suc t) (suc a) low = ap (λ l. x ∷ l) (take_of_take xs t a (omega (arith, low)))
 
 -- a chain is put before a place in front of it
-pub put_back : (xs : List ℕ) (a k t : ℕ) → t < a → a ≤ length xs → take t xs ++ ((slice_range xs a (a + k) ++ slice_range xs t a) ++ drop (a + k) xs) ≡ chain_moved xs a k t
+pub put_back : (xs : List ℕ) (a k t : ℕ) → t < a → a ≤ length xs
+    → take t xs ++ ((slice_range xs a (a + k) ++ slice_range xs t a) ++ drop (a + k) xs) ≡ chain_moved xs a k t
 put_back xs a k t low within =
     let front : List ℕ = take a xs in
     let back : List ℕ = drop (a + k) xs in
@@ -44,7 +46,8 @@ put_back xs a k t low within =
     ∙ ap (λ l. l ++ (chain ++ drop t (front ++ back))) (sym first)
 
 -- a chain is put before a place behind it
-pub put_on : (xs : List ℕ) (a k t : ℕ) → a ≤ t → t + k ≤ length xs → take a xs ++ ((slice_range xs (a + k) (t + k) ++ slice_range xs a (a + k)) ++ drop (t + k) xs) ≡ chain_moved xs a k t
+pub put_on : (xs : List ℕ) (a k t : ℕ) → a ≤ t → t + k ≤ length xs
+    → take a xs ++ ((slice_range xs (a + k) (t + k) ++ slice_range xs a (a + k)) ++ drop (t + k) xs) ≡ chain_moved xs a k t
 put_on xs a k t low within =
     let s : ℕ = t - a in
     let front : List ℕ = take a xs in
@@ -54,21 +57,25 @@ put_on xs a k t low within =
     let there : t ≡ length front + s = omega (arith, low, within, length-take-le a xs (omega (arith, low, within))) in
     let far : (t + k) - (a + k) ≡ s = omega (arith, low) in
     let end : (a + k) + s ≡ t + k = omega (arith, low) in
-    let first : take t (front ++ back) ≡ front ++ passed = ap (λ n. take n (front ++ back)) there ∙ take-append-add front back s ∙ ap (λ n. front ++ take n back) (sym far) in
-    let last : drop t (front ++ back) ≡ drop (t + k) xs = ap (λ n. drop n (front ++ back)) there ∙ drop-append-add front back s ∙ drop_drop xs (a + k) s ∙ ap (λ n. drop n xs) end in
+    let first : take t (front ++ back) ≡ front ++ passed = ap (λ n. take n (front ++ back)) there
+    ∙ take-append-add front back s ∙ ap (λ n. front ++ take n back) (sym far) in
+    let last : drop t (front ++ back) ≡ drop (t + k) xs = ap (λ n. drop n (front ++ back)) there
+    ∙ drop-append-add front back s ∙ drop_drop xs (a + k) s ∙ ap (λ n. drop n xs) end in
     ap (λ l. front ++ l) (append_assoc passed chain (drop (t + k) xs))
     ∙ sym (append_assoc front passed (chain ++ drop (t + k) xs))
     ∙ ap (λ l. (front ++ passed) ++ (chain ++ l)) (sym last)
     ∙ ap (λ l. l ++ (chain ++ drop t (front ++ back))) (sym first)
 
 -- two places are written
-pub swap_spliced : (xs : List ℕ) (a b y x : ℕ) → a < b → b < length xs → take a xs ++ (((y ∷ slice_range xs (a + 1) b) ++ x ∷ []) ++ drop (b + 1) xs) ≡ slice_set (slice_set xs a y) b x
+pub swap_spliced : (xs : List ℕ) (a b y x : ℕ) → a < b → b < length xs
+    → take a xs ++ (((y ∷ slice_range xs (a + 1) b) ++ x ∷ []) ++ drop (b + 1) xs) ≡ slice_set (slice_set xs a y) b x
 swap_spliced xs a b y x order low =
     let once : List ℕ = slice_set xs a y in
     let mid : List ℕ = slice_range xs (a + 1) b in
     let split : once ≡ take a xs ++ y ∷ drop (suc a) xs = set_split xs a y (omega (arith, order, low)) in
     let s : ℕ = b - suc a in
-    let far : b ≡ length (take a xs ++ y ∷ []) + s = omega (arith, order, length-append (take a xs) (y ∷ []), length-take-le a xs (omega (arith, order, low))) in
+    let far : b ≡ length (take a xs ++ y ∷ []) + s =
+    omega (arith, order, length-append (take a xs) (y ∷ []), length-take-le a xs (omega (arith, order, low))) in
     let whole : once ≡ (take a xs ++ y ∷ []) ++ drop (suc a) xs = split ∙ sym (append_assoc (take a xs) (y ∷ []) (drop (suc a) xs)) in
     let front : take b once ≡ (take a xs ++ y ∷ []) ++ mid =
     ap (take b) whole ∙ ap (λ n. take n ((take a xs ++ y ∷ []) ++ drop (suc a) xs)) far ∙ take-append-add (take a xs ++ y ∷ []) (drop (suc a) xs) s
@@ -83,7 +90,8 @@ swap_spliced xs a b y x order low =
     ∙ sym (set_split once b x (omega (arith, low, length-set xs a y)))
 
 -- two nodes are put in
-pub pair_spliced : (xs : List ℕ) (s t x y : ℕ) → take s xs ++ ((x ∷ (slice_range xs s t ++ y ∷ [])) ++ drop t xs) ≡ take s xs ++ (x ∷ (slice_range xs s t ++ (y ∷ drop t xs)))
+pub pair_spliced : (xs : List ℕ) (s t x y : ℕ)
+    → take s xs ++ ((x ∷ (slice_range xs s t ++ y ∷ [])) ++ drop t xs) ≡ take s xs ++ (x ∷ (slice_range xs s t ++ (y ∷ drop t xs)))
 pair_spliced xs s t x y = ap (λ l. take s xs ++ (x ∷ l)) (append_assoc (slice_range xs s t) (y ∷ []) (drop t xs))
 
 -- the same of slices joined from the left
@@ -94,13 +102,16 @@ three_joined xs one two a e =
     ∙ ap (λ l. l ++ drop e xs) (append_assoc (take a xs) one two)
     ∙ append_assoc (take a xs) (one ++ two) (drop e xs)
 
-pub moved_back : (xs : List ℕ) (a k t : ℕ) → t < a → a ≤ length xs → ((slice_range xs 0 t ++ slice_range xs a (a + k)) ++ slice_range xs t a) ++ slice_range xs (a + k) (length xs) ≡ chain_moved xs a k t
+pub moved_back : (xs : List ℕ) (a k t : ℕ) → t < a → a ≤ length xs
+    → ((slice_range xs 0 t ++ slice_range xs a (a + k)) ++ slice_range xs t a) ++ slice_range xs (a + k) (length xs) ≡ chain_moved xs a k t
 moved_back xs a k t low within = three_joined xs (slice_range xs a (a + k)) (slice_range xs t a) t (a + k) ∙ put_back xs a k t low within
 
-pub moved_on : (xs : List ℕ) (a k t : ℕ) → a ≤ t → t + k ≤ length xs → ((slice_range xs 0 a ++ slice_range xs (a + k) (t + k)) ++ slice_range xs a (a + k)) ++ slice_range xs (t + k) (length xs) ≡ chain_moved xs a k t
+pub moved_on : (xs : List ℕ) (a k t : ℕ) → a ≤ t → t + k ≤ length xs
+    → ((slice_range xs 0 a ++ slice_range xs (a + k) (t + k)) ++ slice_range xs a (a + k)) ++ slice_range xs (t + k) (length xs) ≡ chain_moved xs a k t
 moved_on xs a k t low within = three_joined xs (slice_range xs (a + k) (t + k)) (slice_range xs a (a + k)) a (t + k) ∙ put_on xs a k t low within
 
-pub swapped_joined : (xs : List ℕ) (a b y x : ℕ) → a < b → b < length xs → ((((slice_range xs 0 a ++ y ∷ []) ++ slice_range xs (a + 1) b) ++ x ∷ []) ++ slice_range xs (b + 1) (length xs)) ≡ slice_set (slice_set xs a y) b x
+pub swapped_joined : (xs : List ℕ) (a b y x : ℕ) → a < b → b < length xs
+    → ((((slice_range xs 0 a ++ y ∷ []) ++ slice_range xs (a + 1) b) ++ x ∷ []) ++ slice_range xs (b + 1) (length xs)) ≡ slice_set (slice_set xs a y) b x
 swapped_joined xs a b y x order low =
     ap (λ l. (l ++ x ∷ []) ++ slice_range xs (b + 1) (length xs)) (append_assoc (slice_range xs 0 a) (y ∷ []) (slice_range xs (a + 1) b))
     ∙ three_joined xs (y ∷ slice_range xs (a + 1) b) (x ∷ []) a (b + 1) ∙ swap_spliced xs a b y x order low

@@ -1,5 +1,6 @@
 -- Lists that are written as splices of the lists before them.
-use Rattle.std.proofs.Common.{◌≡◌, ◌∙◌, ℕ, zero, suc, ◌+◌, ◌-◌, ◌<◌, ◌≤◌, false, List, [], ◌∷◌, ◌++◌, length, length-append, take, drop, refl, sym, ap, subst, arith}
+use Rattle.std.proofs.Common.{◌≡◌, ◌∙◌, ℕ, zero, suc, ◌+◌, ◌-◌, ◌<◌, ◌≤◌, false, List, [], ◌∷◌, ◌++◌, length, length-append, take, drop, refl, sym, ap, subst}
+use Rattle.std.proofs.Common.{arith}
 use Rattle.std.specs.Prelude.{All, slice_range}
 use Rattle.std.proofs.lemmas.List.{append-nil}
 use Rattle.std.proofs.lemmas.List.Elements.{All-append, All-nil}
@@ -25,11 +26,14 @@ all_more : {A : Type 0} (P : A → Type 0) (x : A) (xs : List A) → P x → All
 all_more P x xs h all = All-append P (x ∷ []) xs (all_one P x h) all
 
 -- a list is begun
-pub begun : (lists : List (List ℕ)) (part : ListAfter) (v front : ℕ) → part.vehicle ≡ v → part.front ≡ front → part.pieces ≡ Chain v 0 front false ∷ [] → IsPartBegun lists part v front []
-begun lists part v front vehicle same pieces = record { vehicle_is = vehicle; front_is = same; middle = []; pieces_are = pieces; nodes_are = refl; each_within = All-nil (IsWithin lists) }
+pub begun : (lists : List (List ℕ)) (part : ListAfter) (v front : ℕ) → part.vehicle ≡ v
+    → part.front ≡ front → part.pieces ≡ Chain v 0 front false ∷ [] → IsPartBegun lists part v front []
+begun lists part v front vehicle same pieces =
+    record { vehicle_is = vehicle; front_is = same; middle = []; pieces_are = pieces; nodes_are = refl; each_within = All-nil (IsWithin lists) }
 
 -- a piece is added
-pub added : (lists : List (List ℕ)) (old new : ListAfter) (v front : ℕ) (nodes : List ℕ) (piece : Piece) → new.vehicle ≡ old.vehicle → new.front ≡ old.front → new.pieces ≡ old.pieces ++ piece ∷ []
+pub added : (lists : List (List ℕ)) (old new : ListAfter) (v front : ℕ) (nodes : List ℕ) (piece : Piece)
+    → new.vehicle ≡ old.vehicle → new.front ≡ old.front → new.pieces ≡ old.pieces ++ piece ∷ []
     → IsWithin lists piece → IsPartBegun lists old v front nodes → IsPartBegun lists new v front (nodes ++ nodes_of lists piece)
 added lists old new v front nodes piece vehicle same pieces within before = record {
   vehicle_is = vehicle ∙ before.vehicle_is;
@@ -41,8 +45,10 @@ added lists old new v front nodes piece vehicle same pieces within before = reco
 }
 
 -- the end is added
-pub ended : (lists : List (List ℕ)) (old new : ListAfter) (v front behind n : ℕ) (nodes : List ℕ) → new.vehicle ≡ old.vehicle → new.front ≡ old.front → new.behind ≡ behind
-    → new.pieces ≡ old.pieces ++ Chain old.vehicle behind n false ∷ [] → v < length lists → n ≡ length (route lists v) → front ≤ behind → behind ≤ n → IsPartBegun lists old v front nodes
+pub ended : (lists : List (List ℕ)) (old new : ListAfter) (v front behind n : ℕ) (nodes : List ℕ)
+    → new.vehicle ≡ old.vehicle → new.front ≡ old.front → new.behind ≡ behind
+    → new.pieces ≡ old.pieces ++ Chain old.vehicle behind n false ∷ [] → v < length lists
+    → n ≡ length (route lists v) → front ≤ behind → behind ≤ n → IsPartBegun lists old v front nodes
     → IsAfter lists new v (take front (route lists v) ++ (nodes ++ drop behind (route lists v)))
 ended lists old new v front behind n nodes vehicle same from pieces low whole order high before = record {
   vehicle_is = is;
@@ -71,7 +77,9 @@ ended lists old new v front behind n nodes vehicle same from pieces low whole or
     is = vehicle ∙ before.vehicle_is
 
     are : new.pieces ≡ every
-    are = pieces ∙ (ap (λ ps. ps ++ Chain old.vehicle behind n false ∷ []) before.pieces_are ∙ ap (λ w. (Chain v 0 front false ∷ middle) ++ Chain w behind n false ∷ []) before.vehicle_is)
+    are = pieces
+        ∙ (ap (λ ps. ps ++ Chain old.vehicle behind n false ∷ []) before.pieces_are
+        ∙ ap (λ w. (Chain v 0 front false ∷ middle) ++ Chain w behind n false ∷ []) before.vehicle_is)
 
     kept : slice_range list behind n ≡ drop behind list
     kept = ap (slice_range list behind) whole ∙ slice_to_end list behind
@@ -92,7 +100,8 @@ ended lists old new v front behind n nodes vehicle same from pieces low whole or
 
     middle_is : middle_of every ≡ middle
     middle_is = ap (λ k. take (k - 1 - 1) (middle ++ back ∷ [])) long
-        ∙ (ap (λ k. take k (middle ++ back ∷ [])) (let e : suc (length middle + 1) - 1 - 1 ≡ length middle = omega arith in e) ∙ take-append_seam middle (back ∷ []))
+        ∙ (ap (λ k. take k (middle ++ back ∷ [])) (let e : suc (length middle + 1) - 1 - 1 ≡ length middle = omega arith in e)
+        ∙ take-append_seam middle (back ∷ []))
 
     splice : IsSplice lists v every front behind middle
     splice = record { order = order; high = omega (arith, high, whole); within = before.each_within; few = omega (arith, long); joins = parts }

@@ -1,5 +1,6 @@
 -- Visits, and the lists of routes.
-use Rattle.std.proofs.Common.{◌⊎◌, inl, inr, length-set, ◌≡◌, ◌∙◌, ℕ, zero, suc, ◌+◌, ◌<◌, ◌≤◌, Bool, true, false, List, [], ◌∷◌, ◌++◌, length, refl, sym, ap, subst, arith, replicate, append_assoc, cond, add-one}
+use Rattle.std.proofs.Common.{◌⊎◌, inl, inr, length-set, ◌≡◌, ◌∙◌, ℕ, zero, suc, ◌+◌, ◌<◌, ◌≤◌, Bool, true, false, List, [], ◌∷◌, ◌++◌, length, refl, sym, ap}
+use Rattle.std.proofs.Common.{subst, arith, replicate, append_assoc, cond, add-one}
 use Rattle.std.specs.Prelude.{◌==◌, nat_lt, slice_index, IsTrue, All, slice_set, filter}
 use Rattle.std.proofs.lemmas.List.Elements.{All-filter, filter_passes}
 use Rattle.std.specs.List.Sorted.{IsStrictlyIncreasing}
@@ -34,13 +35,15 @@ set_as_read (l ∷ ls) zero = refl
 set_as_read (l ∷ ls) (suc v) = ap (λ r. l ∷ r) (set_as_read ls v)
 
 -- a list that is written shorter and shorter
-pub written_again : (old now next : List (List ℕ)) (v : ℕ) (list rest : List ℕ) → now ≡ slice_set old v list → next ≡ slice_set now v rest → v < length now → next ≡ slice_set old v (route next v)
+pub written_again : (old now next : List (List ℕ)) (v : ℕ) (list rest : List ℕ) → now ≡ slice_set old v list
+    → next ≡ slice_set now v rest → v < length now → next ≡ slice_set old v (route next v)
 written_again old now next v list rest e f low =
     f ∙ ap (λ l. slice_set l v rest) e ∙ set_twice old v list rest ∙ ap (slice_set old v) (sym (ap (λ l. route l v) f ∙ route_set_same now v rest low))
 
 pub visits_below : (model : Model) → All (λ node. node < model.nodes) (visits model)
 visits_below model = All-filter (is_visit model) (λ node. node < model.nodes) (below model.nodes)
-    (λ k d low. let n = length-range_with_len 0 model.nodes in let here : k < model.nodes = omega (arith, low, n) in let e = get_or-range_with_len 0 model.nodes k d here in omega (arith, e, here))
+    (λ k d low. let n = length-range_with_len 0 model.nodes in let here : k < model.nodes = omega (arith, low, n) in
+    let e = get_or-range_with_len 0 model.nodes k d here in omega (arith, e, here))
 
 range_ascends : (a n : ℕ) → IsStrictlyIncreasing (range_with_len a n)
 range_ascends a n k low =
@@ -51,7 +54,8 @@ pub visits_ascend : (model : Model) → IsStrictlyIncreasing (visits model)
 visits_ascend model = IsStrictlyIncreasing-filter (is_visit model) (below model.nodes) (range_ascends 0 model.nodes)
 
 pub few_visits : (model : Model) → length (visits model) ≤ model.nodes
-few_visits model = omega (arith, length-filter (is_visit model) (below model.nodes), count_by-le-length (is_visit model) (below model.nodes), length-range_with_len 0 model.nodes)
+few_visits model = omega
+    (arith, length-filter (is_visit model) (below model.nodes), count_by-le-length (is_visit model) (below model.nodes), length-range_with_len 0 model.nodes)
 
 pub length_of_empty : (n : ℕ) → length (replicate {A = List ℕ} n []) ≡ n
 length_of_empty zero = refl
@@ -59,7 +63,8 @@ length_of_empty (suc n) = ap suc (length_of_empty n)
 
 -- ---- a node put at the end of a list
 
-pub active_after_put : (lists : List (List ℕ)) (v x y : ℕ) → v < length lists → IsTrue (is_active (slice_set lists v (route lists v ++ x ∷ [])) y) → (y ≡ x) ⊎ IsTrue (is_active lists y)
+pub active_after_put : (lists : List (List ℕ)) (v x y : ℕ) → v < length lists
+    → IsTrue (is_active (slice_set lists v (route lists v ++ x ∷ [])) y) → (y ≡ x) ⊎ IsTrue (is_active lists y)
 active_after_put lists v x y low active = by (seat_of_active new y active)
   where
     new : List (List ℕ)
@@ -71,7 +76,8 @@ active_after_put lists v x y low active = by (seat_of_active new y active)
     here : (k : ℕ) → k < length (route lists v ++ x ∷ []) → slice_index (route lists v ++ x ∷ []) k ≡ y → (y ≡ x) ⊎ IsTrue (is_active lists y)
     here k k_low e = elim (cases_lt k (length (route lists v))) [
       | inl before ↦ inr (active_at lists y v k low before (sym (get_or_append_left (route lists v) (x ∷ []) 0 k before) ∙ e))
-      | inr past ↦ (let last : length (route lists v) ≡ k = omega (arith, k_low, past, length-append (route lists v) (x ∷ [])) in inl (sym e ∙ get_or_push (route lists v) x 0 k last))
+      | inr past ↦ (let last : length (route lists v) ≡ k = omega (arith, k_low, past, length-append (route lists v) (x ∷ [])) in
+          inl (sym e ∙ get_or_push (route lists v) x 0 k last))
     ]
 
     by : (v : ℕ) × (k : ℕ) × IsSeat new y v k → (y ≡ x) ⊎ IsTrue (is_active lists y)
@@ -81,10 +87,12 @@ active_after_put lists v x y low active = by (seat_of_active new y active)
           here s.1 (subst (λ l. s.1 < length l) row s.2.place) (ap (λ l. slice_index l s.1) (sym row) ∙ s.2.found))
       | inr other ↦ (
           let row : route new s.0 ≡ route lists s.0 = route_set_other lists v s.0 (route lists v ++ x ∷ []) other.1 in
-          inr (active_at lists y s.0 s.1 (within s.0 s.2.vehicle) (subst (λ l. s.1 < length l) row s.2.place) (ap (λ l. slice_index l s.1) (sym row) ∙ s.2.found)))
+          inr (active_at lists y s.0 s.1 (within s.0 s.2.vehicle)
+          (subst (λ l. s.1 < length l) row s.2.place) (ap (λ l. slice_index l s.1) (sym row) ∙ s.2.found)))
     ]
 
-pub visits_after_put : (model : Model) (lists : List (List ℕ)) (v x : ℕ) → v < length lists → HaveVisits model lists → IsTrue (is_visit model x) → HaveVisits model (slice_set lists v (route lists v ++ x ∷ []))
+pub visits_after_put : (model : Model) (lists : List (List ℕ)) (v x : ℕ) → v < length lists → HaveVisits model lists
+    → IsTrue (is_visit model x) → HaveVisits model (slice_set lists v (route lists v ++ x ∷ []))
 visits_after_put model lists v x low have visit y active = elim (active_after_put lists v x y low active) [
   | inl same ↦ subst (λ n. IsTrue (is_visit model n)) (sym same) visit
   | inr before ↦ have y before
@@ -95,10 +103,13 @@ pub lists_agree : (xs ys : List (List ℕ)) → length xs ≡ length ys → ((v 
 lists_agree [] [] e h = refl
 lists_agree [] (y ∷ ys) e h = absurd (omega (arith, e))
 lists_agree (x ∷ xs) [] e h = absurd (omega (arith, e))
-lists_agree (x ∷ xs) (y ∷ ys) e h = ap (λ l. l ∷ xs) (h 0 (omega arith)) ∙ ap (λ l. y ∷ l) (lists_agree xs ys (omega (arith, e)) (λ v low. h (suc v) (omega (arith, low))))
+lists_agree (x ∷ xs) (y ∷ ys) e h = ap (λ l. l ∷ xs) (h 0 (omega arith))
+    ∙ ap (λ l. y ∷ l) (lists_agree xs ys (omega (arith, e)) (λ v low. h (suc v) (omega (arith, low))))
 
 pub no_visits : (model : Model) (lists : List (List ℕ)) → ((v : ℕ) → route lists v ≡ []) → HaveVisits model lists
-no_visits model lists empty node active = let s = seat_of_active lists node active in absurd (let n : length (route lists s.0) ≡ 0 = ap length (empty s.0) in let k = s.2.place in omega (arith, k, n))
+no_visits model lists empty node active =
+    let s = seat_of_active lists node active in
+    absurd (let n : length (route lists s.0) ≡ 0 = ap length (empty s.0) in let k = s.2.place in omega (arith, k, n))
 
 held_of_in : (xs : List ℕ) (x : ℕ) → In xs x → IsTrue (holds xs x)
 held_of_in [] x h = absurd h
@@ -114,7 +125,8 @@ visit_held model x h =
     below_of : IsTrue (nat_lt x model.nodes) → x < model.nodes
     below_of t = Prim.grind arith
 
-pub put_behind : (old now next : List (List ℕ)) (v x : ℕ) (list more : List ℕ) → v < length old → now ≡ slice_set old v (route old v ++ list) → next ≡ slice_set now v (route now v ++ x ∷ []) → more ≡ list ++ x ∷ [] → next ≡ slice_set old v (route old v ++ more)
+pub put_behind : (old now next : List (List ℕ)) (v x : ℕ) (list more : List ℕ) → v < length old → now ≡ slice_set old v (route old v ++ list)
+    → next ≡ slice_set now v (route now v ++ x ∷ []) → more ≡ list ++ x ∷ [] → next ≡ slice_set old v (route old v ++ more)
 put_behind old now next v x list more low e f m =
     let row : route now v ≡ route old v ++ list = ap (λ l. route l v) e ∙ route_set_same old v (route old v ++ list) low in
     f ∙ ap (λ l. slice_set l v (route now v ++ x ∷ [])) e ∙ set_twice old v (route old v ++ list) (route now v ++ x ∷ [])
@@ -137,7 +149,8 @@ filter_last : (p : ℕ → Bool) (xs : List ℕ) (x : ℕ) → filter p (xs ++ x
 filter_last p [] x = refl
 filter_last p (y ∷ ys) x = by (p y) (filter_last p ys x)
   where
-    by : (t : Bool) → filter p (ys ++ x ∷ []) ≡ filter p ys ++ cond (p x) (x ∷ []) [] → cond t (y ∷ filter p (ys ++ x ∷ [])) (filter p (ys ++ x ∷ [])) ≡ cond t (y ∷ filter p ys) (filter p ys) ++ cond (p x) (x ∷ []) []
+    by : (t : Bool) → filter p (ys ++ x ∷ []) ≡ filter p ys ++ cond (p x) (x ∷ []) []
+        → cond t (y ∷ filter p (ys ++ x ∷ [])) (filter p (ys ++ x ∷ [])) ≡ cond t (y ∷ filter p ys) (filter p ys) ++ cond (p x) (x ∷ []) []
     by true e = ap (λ l. y ∷ l) e
     by false e = e
 
@@ -146,7 +159,11 @@ filter_below_more p n =
     ap (λ k. filter p (range_with_len 0 k)) (add-one n) ∙ ap (filter p) (range_more 0 n ∙ ap (λ k. below n ++ k ∷ []) (omega arith)) ∙ filter_last p (below n) n
 
 below_itself : (n : ℕ) → All (λ x. x < n) (below n)
-below_itself n k d low = let m = length-range_with_len 0 n in let here : k < n = omega (arith, low, m) in let e = get_or-range_with_len 0 n k d here in omega (arith, e, here)
+below_itself n k d low =
+    let m = length-range_with_len 0 n in
+    let here : k < n = omega (arith, low, m) in
+    let e = get_or-range_with_len 0 n k d here in
+    omega (arith, e, here)
 
 pub next_not_held : (p : ℕ → Bool) (n : ℕ) (lists : List (List ℕ)) → lists ≡ filter p (below n) ∷ [] → is_active lists n ≡ false
 next_not_held p n lists e = ap (λ l. is_active l n) e ∙ fails (is_active (filter p (below n) ∷ []) n) (λ h. elim (or_cases (holds (filter p (below n)) n) _ h) [
@@ -186,12 +203,14 @@ tours_of model well visited seating lists nodes there many entries =
       few_vehicles = omega (arith, many, fleet);
       few_visits = omega (arith, few, few_nodes, long);
       visits_ascend = subst IsStrictlyIncreasing (sym list) (visits_ascend model);
-      each_visit_is_node = subst (λ l. All (λ node. node < seating.nodes) l) (sym list) (subst (λ n. All (λ node. node < n) (visits model)) (sym there) (visits_below model));
+      each_visit_is_node =
+          subst (λ l. All (λ node. node < seating.nodes) l) (sym list) (subst (λ n. All (λ node. node < n) (visits model)) (sym there) (visits_below model));
       each_entry_is_visit = λ node active. subst (λ l. IsTrue (holds l node)) (sym list) (visit_held model node (entries node active));
     }
 
 -- other lists of them, as many
-pub tours_after : {visited seating : Seated} → AreSeatedTours visited seating → (other : Seated) → seating.nodes ≡ other.nodes → length other.lists ≡ length seating.lists
+pub tours_after : {visited seating : Seated} → AreSeatedTours visited seating
+    → (other : Seated) → seating.nodes ≡ other.nodes → length other.lists ≡ length seating.lists
     → ((node : ℕ) → IsTrue (is_active other.lists node) → IsTrue (holds (route visited.lists 0) node)) → AreSeatedTours visited other
 tours_after {visited} {seating} tours other nodes many entries =
     let few = tours.few_vehicles in

@@ -1,5 +1,6 @@
 -- Lists without the two nodes of a pair.
-use Rattle.std.proofs.Common.{◌≡◌, ◌∙◌, ℕ, zero, suc, ◌+◌, ◌<◌, ◌≤◌, Bool, true, false, cond, not, ◌||◌, List, [], ◌∷◌, ◌++◌, length, map, take, drop, drop-cons, refl, sym, ap, inl, inr, arith}
+use Rattle.std.proofs.Common.{◌≡◌, ◌∙◌, ℕ, zero, suc, ◌+◌, ◌<◌, ◌≤◌, Bool, true, false, cond, not, ◌||◌, List, [], ◌∷◌, ◌++◌, length, map, take, drop}
+use Rattle.std.proofs.Common.{drop-cons, refl, sym, ap, inl, inr, arith}
 use Rattle.std.specs.Prelude.{◌==◌, filter, slice_index, slice_range, slice_set}
 use Rattle.std.proofs.lemmas.Bool.Decides.{eqb_tells}
 use Rattle.std.proofs.lemmas.List.{take-append-drop}
@@ -15,7 +16,8 @@ use Rattle.vr_model.proofs.moves.Times.{times, times_in, hit, times_append, time
 use Rattle.vr_routes.proofs.OnceLemmas.{few_times}
 
 -- the list in which two of its places stand out
-pub split_at_two : (xs : List ℕ) (lo hi : ℕ) → lo < hi → hi < length xs → xs ≡ take lo xs ++ (slice_index xs lo ∷ (slice_range xs (suc lo) hi ++ (slice_index xs hi ∷ drop (suc hi) xs)))
+pub split_at_two : (xs : List ℕ) (lo hi : ℕ) → lo < hi → hi < length xs
+    → xs ≡ take lo xs ++ (slice_index xs lo ∷ (slice_range xs (suc lo) hi ++ (slice_index xs hi ∷ drop (suc hi) xs)))
 split_at_two xs lo hi order low =
     sym (take-append-drop lo xs)
     ∙ ap (λ l. take lo xs ++ l) (drop-cons xs lo 0 (omega (arith, order, low)))
@@ -30,7 +32,8 @@ module _ (pair : Pair) where
   other_kept y no_pickup no_delivery = elim (eqb_tells y pair.pickup) [
     | inl same ↦ absurd (let one : hit pair.pickup y ≡ 1 = ap (λ t. cond t 1 0) (ap (λ n. n == y) (sym same.1) ∙ itself y) in omega (arith, one, no_pickup))
     | inr other ↦ elim (eqb_tells y pair.delivery) [
-      | inl same ↦ absurd (let one : hit pair.delivery y ≡ 1 = ap (λ t. cond t 1 0) (ap (λ n. n == y) (sym same.1) ∙ itself y) in omega (arith, one, no_delivery))
+      | inl same ↦
+          absurd (let one : hit pair.delivery y ≡ 1 = ap (λ t. cond t 1 0) (ap (λ n. n == y) (sym same.1) ∙ itself y) in omega (arith, one, no_delivery))
       | inr too ↦ ap (λ t. not (t || (y == pair.delivery))) other.0 ∙ ap (λ t. not (false || t)) too.0
     ]
   ]
@@ -59,7 +62,8 @@ module _ (pair : Pair) where
 
   -- two places that hold the nodes of the pair
   pub two_out : (xs : List ℕ) (lo hi : ℕ) → lo < hi → hi < length xs → keeps (slice_index xs lo) ≡ false → keeps (slice_index xs hi) ≡ false
-      → 1 ≤ hit pair.pickup (slice_index xs lo) + hit pair.pickup (slice_index xs hi) → 1 ≤ hit pair.delivery (slice_index xs lo) + hit pair.delivery (slice_index xs hi)
+      → 1 ≤ hit pair.pickup (slice_index xs lo) + hit pair.pickup (slice_index xs hi)
+      → 1 ≤ hit pair.delivery (slice_index xs lo) + hit pair.delivery (slice_index xs hi)
       → times pair.pickup xs ≤ 1 → times pair.delivery xs ≤ 1 → without_pair pair xs ≡ without_two xs lo hi
   two_out xs lo hi order low out_lo out_hi one_p one_d few_p few_d =
       let front : List ℕ = take lo xs in
@@ -68,17 +72,22 @@ module _ (pair : Pair) where
       let x : ℕ = slice_index xs lo in
       let y : ℕ = slice_index xs hi in
       let split = split_at_two xs lo hi order low in
-      let p : times pair.pickup xs ≡ times pair.pickup front + (hit pair.pickup x + (times pair.pickup mid + (hit pair.pickup y + times pair.pickup back))) = count pair.pickup in
-      let d : times pair.delivery xs ≡ times pair.delivery front + (hit pair.delivery x + (times pair.delivery mid + (hit pair.delivery y + times pair.delivery back))) = count pair.delivery in
+      let p : times pair.pickup xs
+      ≡ times pair.pickup front + (hit pair.pickup x + (times pair.pickup mid + (hit pair.pickup y + times pair.pickup back))) = count pair.pickup in
+      let d : times pair.delivery xs
+      ≡ times pair.delivery front + (hit pair.delivery x + (times pair.delivery mid + (hit pair.delivery y + times pair.delivery back))) =
+      count pair.delivery in
       ap (without_pair pair) split ∙ filter-append keeps front (x ∷ (mid ++ (y ∷ back)))
       ∙ ap (λ l. l ++ without_pair pair (x ∷ (mid ++ (y ∷ back)))) (nothing_out front (omega (arith, p, one_p, few_p)) (omega (arith, d, one_d, few_d)))
       ∙ ap (λ l. front ++ l) (one_out x (mid ++ (y ∷ back)) out_lo ∙ filter-append keeps mid (y ∷ back)
       ∙ ap (λ l. l ++ without_pair pair (y ∷ back)) (nothing_out mid (omega (arith, p, one_p, few_p)) (omega (arith, d, one_d, few_d)))
       ∙ ap (λ l. mid ++ l) (one_out y back out_hi ∙ nothing_out back (omega (arith, p, one_p, few_p)) (omega (arith, d, one_d, few_d))))
     where
-      count : (z : ℕ) → times z xs ≡ times z (take lo xs) + (hit z (slice_index xs lo) + (times z (slice_range xs (suc lo) hi) + (hit z (slice_index xs hi) + times z (drop (suc hi) xs))))
+      count : (z : ℕ) → times z xs ≡ times z (take lo xs)
+          + (hit z (slice_index xs lo) + (times z (slice_range xs (suc lo) hi) + (hit z (slice_index xs hi) + times z (drop (suc hi) xs))))
       count z =
-          let e : times z xs ≡ times z (take lo xs ++ (slice_index xs lo ∷ (slice_range xs (suc lo) hi ++ (slice_index xs hi ∷ drop (suc hi) xs)))) = ap (times z) (split_at_two xs lo hi order low) in
+          let e : times z xs ≡ times z (take lo xs ++ (slice_index xs lo ∷ (slice_range xs (suc lo) hi ++ (slice_index xs hi ∷ drop (suc hi) xs)))) =
+          ap (times z) (split_at_two xs lo hi order low) in
           let a = times_append z (take lo xs) (slice_index xs lo ∷ (slice_range xs (suc lo) hi ++ (slice_index xs hi ∷ drop (suc hi) xs))) in
           let b = times_append z (slice_range xs (suc lo) hi) (slice_index xs hi ∷ drop (suc hi) xs) in
           omega (arith, e, a, b)
@@ -87,7 +96,8 @@ module _ (pair : Pair) where
   row_times x lists v low = let whole = times_set x lists v [] low in omega (arith, whole)
 
   -- all that stands of the pair stands in one list
-  pub one_list_changes : (lists : List (List ℕ)) (v : ℕ) → v < length lists → times_in pair.pickup lists ≤ times pair.pickup (route lists v) → times_in pair.delivery lists ≤ times pair.delivery (route lists v)
+  pub one_list_changes : (lists : List (List ℕ)) (v : ℕ) → v < length lists
+      → times_in pair.pickup lists ≤ times pair.pickup (route lists v) → times_in pair.delivery lists ≤ times pair.delivery (route lists v)
       → map (without_pair pair) lists ≡ slice_set lists v (without_pair pair (route lists v))
   one_list_changes [] v low p d = absurd (omega (arith, low))
   one_list_changes (l ∷ ls) zero low p d = ap (λ r. without_pair pair l ∷ r) (nothing_out_of ls (omega (arith, p)) (omega (arith, d)))
@@ -133,7 +143,8 @@ module _ (pair : Pair) where
     delivery_hit = one_of pair.delivery (slice_index row j) places.delivery_stands.found
 
     gap_of : (lo hi : ℕ) → lo < hi → hi < length row → keeps (slice_index row lo) ≡ false → keeps (slice_index row hi) ≡ false
-        → 1 ≤ hit pair.pickup (slice_index row lo) + hit pair.pickup (slice_index row hi) → 1 ≤ hit pair.delivery (slice_index row lo) + hit pair.delivery (slice_index row hi)
+        → 1 ≤ hit pair.pickup (slice_index row lo) + hit pair.pickup (slice_index row hi)
+        → 1 ≤ hit pair.delivery (slice_index row lo) + hit pair.delivery (slice_index row hi)
         → IsGap lists pair v lo hi
     gap_of lo hi order within out_lo out_hi one_p one_d =
         let all_p = row_times pair.pickup lists v low in

@@ -1,5 +1,6 @@
 -- What every answer of the search keeps to.
-use Rattle.std.proofs.Common.{◌≡◌, ◌∙◌, ◌<◌, ◌≤◌, ◌+◌, ◌++◌, ℕ, zero, suc, List, [], ◌∷◌, Bool, true, false, cond, Some, None, refl, ap, ap₂, sym, subst, arith, length, append_assoc}
+use Rattle.std.proofs.Common.{◌≡◌, ◌∙◌, ◌<◌, ◌≤◌, ◌+◌, ◌++◌, ℕ, zero, suc, List, [], ◌∷◌, Bool, true, false, cond, Some, None, refl, ap, ap₂, sym, subst, arith}
+use Rattle.std.proofs.Common.{length, append_assoc}
 use Rattle.std.specs.Prelude.{◌&&◌, ◌||◌, ◌==◌, filter, is_some, int_le, int_lt, nat_lt, ◌-◌, ◌≤ℤ◌, ℤ}
 use Rattle.std.specs.List.{list_any}
 use Rattle.std.proofs.lemmas.Bool.{eqb-true}
@@ -132,7 +133,8 @@ module _ (model : Model) (well_formed : IsWellFormed model) (limit : Limit) wher
   -- ---- a step
 
   -- a step that is refused counts as a try
-  refused : (kept : List Lists) (lists best first : Lists) (used found : ℕ) → IsSoundAt kept lists best first used found → suc used ≤ limit.tries → IsSoundAt kept lists best first (suc used) found
+  refused : (kept : List Lists) (lists best first : Lists) (used found : ℕ) → IsSoundAt kept lists best first used found
+      → suc used ≤ limit.tries → IsSoundAt kept lists best first (suc used) found
   refused kept lists best first used found s low = record {
     lists_open = s.lists_open;
     best_open = s.best_open;
@@ -156,7 +158,8 @@ module _ (model : Model) (well_formed : IsWellFormed model) (limit : Limit) wher
     pub both : (lack model first == 0) ≡ (lack model best == 0)
     pub no_dearer : (lack model best == 0) ≡ true → cost model best ≤ℤ cost model first
 
-  module _ (kept : List Lists) (lists best first new : Lists) (used found : ℕ) (s : IsSoundAt kept lists best first used found) (built : AreBuilt model new) where
+  module _ (kept : List Lists) (lists best first new : Lists) (used found : ℕ)
+      (s : IsSoundAt kept lists best first used found) (built : AreBuilt model new) where
     abbrev new_best : Lists
     new_best = cond (becomes_best model best new) new best
 
@@ -164,14 +167,18 @@ module _ (model : Model) (well_formed : IsWellFormed model) (limit : Limit) wher
     new_first = cond (lack model first == 0) first new
 
     -- lists that lack nothing, after others that do not either
-    better_valid : (lack model best == 0) ≡ true → (lack model new == 0) ≡ true → (b : Bool) → becomes_best model best new ≡ b → IsLeastAt (kept ++ new ∷ []) (cond b new best) first
+    better_valid : (lack model best == 0) ≡ true → (lack model new == 0) ≡ true → (b : Bool)
+        → becomes_best model best new ≡ b → IsLeastAt (kept ++ new ∷ []) (cond b new best) first
     better_valid e f b h =
-        let less : int_lt (cost model new) (cost model best) ≡ b = tells (lack model new) (lack model best) (int_lt (cost model new) (cost model best)) (eqb-true (lack model best) 0 e) (eqb-true (lack model new) 0 f) ∙ h in
+        let less : int_lt (cost model new) (cost model best) ≡ b = tells (lack model new) (lack model best)
+        (int_lt (cost model new) (cost model best)) (eqb-true (lack model best) 0 e) (eqb-true (lack model new) 0 f) ∙ h in
         let more = valid_more kept new true (lacks new built ∙ f) in
         record {
           none = λ g. absurd (clash (lack model (cond b new best) == 0) (still b) g);
-          least = λ g. ap (least_by (λ lists. cost model lists ∷ [])) more ∙ one_more_least (λ lists. cost model lists ∷ []) (valid_of kept) new ∙ ap (λ o. better (λ lists. cost model lists ∷ []) o new) (s.least e) ∙ ap Some (cheaper b less);
-          first_least = λ g. ap (least_by (λ lists. [])) more ∙ one_more_least (λ lists. []) (valid_of kept) new ∙ ap (λ o. better (λ lists. []) o new) (s.first_least e);
+          least = λ g. ap (least_by (λ lists. cost model lists ∷ [])) more ∙ one_more_least (λ lists. cost model lists ∷ []) (valid_of kept) new
+              ∙ ap (λ o. better (λ lists. cost model lists ∷ []) o new) (s.least e) ∙ ap Some (cheaper b less);
+          first_least = λ g. ap (least_by (λ lists. [])) more ∙ one_more_least (λ lists. []) (valid_of kept) new
+              ∙ ap (λ o. better (λ lists. []) o new) (s.first_least e);
           both = s.both ∙ e ∙ sym (still b);
           no_dearer = λ g. less_still b less;
         }
@@ -183,7 +190,8 @@ module _ (model : Model) (well_formed : IsWellFormed model) (limit : Limit) wher
         still true = f
         still false = e
 
-        cheaper : (b : Bool) → int_lt (cost model new) (cost model best) ≡ b → cond (is_lex_less (cost model new ∷ []) (cost model best ∷ [])) new best ≡ cond b new best
+        cheaper : (b : Bool) → int_lt (cost model new) (cost model best) ≡ b
+            → cond (is_lex_less (cost model new ∷ []) (cost model best ∷ [])) new best ≡ cond b new best
         cheaper b less = ap (λ c. cond c new best) (lex_one (cost model new) (cost model best) ∙ less)
 
         less_still : (b : Bool) → int_lt (cost model new) (cost model best) ≡ b → cost model (cond b new best) ≤ℤ cost model first
@@ -191,14 +199,17 @@ module _ (model : Model) (well_formed : IsWellFormed model) (limit : Limit) wher
         less_still false less = s.no_dearer e
 
     -- lists that lack something change nothing that is said of valid ones
-    lacking : (lack model new == 0) ≡ false → (b : Bool) → becomes_best model best new ≡ b → IsLeastAt (kept ++ new ∷ []) (cond b new best) (cond (lack model first == 0) first new)
+    lacking : (lack model new == 0) ≡ false → (b : Bool) → becomes_best model best new ≡ b
+        → IsLeastAt (kept ++ new ∷ []) (cond b new best) (cond (lack model first == 0) first new)
     lacking f b h = by (lack model best == 0) refl b h
       where
         same : valid_of (kept ++ new ∷ []) ≡ valid_of kept
         same = valid_more kept new false (lacks new built ∙ f) ∙ append-nil (valid_of kept)
 
-        by : (c : Bool) → (lack model best == 0) ≡ c → (b : Bool) → becomes_best model best new ≡ b → IsLeastAt (kept ++ new ∷ []) (cond b new best) (cond (lack model first == 0) first new)
-        by true e true h = absurd (clash (becomes_best model best new) h (not_best (lack model new) (lack model best) (int_lt (cost model new) (cost model best)) (eqb-true (lack model best) 0 e) f))
+        by : (c : Bool) → (lack model best == 0) ≡ c → (b : Bool) → becomes_best model best new ≡ b
+            → IsLeastAt (kept ++ new ∷ []) (cond b new best) (cond (lack model first == 0) first new)
+        by true e true h = absurd (clash (becomes_best model best new) h
+            (not_best (lack model new) (lack model best) (int_lt (cost model new) (cost model best)) (eqb-true (lack model best) 0 e) f))
         by true e false h = subst (λ c. IsLeastAt (kept ++ new ∷ []) best (cond c first new)) (sym (s.both ∙ e)) (record {
           none = λ g. absurd (clash (lack model best == 0) e g);
           least = λ g. ap (least_by (λ lists. cost model lists ∷ [])) same ∙ s.least g;
@@ -235,10 +246,13 @@ module _ (model : Model) (well_formed : IsWellFormed model) (limit : Limit) wher
       where
         by : (f e : Bool) → (lack model new == 0) ≡ f → (lack model best == 0) ≡ e → IsLeastAt (kept ++ new ∷ []) new_best new_first
         by false e g h = lacking g (becomes_best model best new) refl
-        by true true g h = subst (λ c. IsLeastAt (kept ++ new ∷ []) new_best (cond c first new)) (sym (s.both ∙ h)) (better_valid h g (becomes_best model best new) refl)
+        by true true g h =
+            subst (λ c. IsLeastAt (kept ++ new ∷ []) new_best (cond c first new)) (sym (s.both ∙ h)) (better_valid h g (becomes_best model best new) refl)
         by true false g h =
             subst (λ c. IsLeastAt (kept ++ new ∷ []) new_best (cond c first new)) (sym (s.both ∙ h))
-            (subst (λ c. IsLeastAt (kept ++ new ∷ []) (cond c new best) new) (sym (is_best (lack model new) (lack model best) (int_lt (cost model new) (cost model best)) (eqb-true (lack model new) 0 g) h)) (first_valid h g))
+            (subst (λ c. IsLeastAt (kept ++ new ∷ []) (cond c new best) new)
+            (sym (is_best (lack model new) (lack model best) (int_lt (cost model new) (cost model best)) (eqb-true (lack model new) 0 g) h))
+            (first_valid h g))
 
     -- a step that is accepted
     accepted : suc used ≤ limit.tries → suc found ≤ limit.solutions → IsSoundAt (kept ++ new ∷ []) new new_best new_first (suc used) (suc found)
@@ -276,19 +290,29 @@ module _ (model : Model) (well_formed : IsWellFormed model) (limit : Limit) wher
   abbrev kept_by : RefineStep → List Lists → List Lists
   kept_by step rest = elim step.is_accepted [ true ↦ step.lists ∷ rest | false ↦ rest ]
 
-  step_sound : (kept : List Lists) (state : RefineState) (step : RefineStep) → IsSoundIn kept state → AreBuilt model step.lists → suc state.search.used ≤ limit.tries → suc state.search.found ≤ limit.solutions
+  step_sound : (kept : List Lists) (state : RefineState) (step : RefineStep) → IsSoundIn kept state
+      → AreBuilt model step.lists → suc state.search.used ≤ limit.tries → suc state.search.found ≤ limit.solutions
       → (b : Bool) → step.is_accepted ≡ b → IsSoundIn (kept ++ kept_by step []) (after_step model state step)
   step_sound kept state step s built tries solutions true e =
       subst (λ b. IsSoundIn (kept ++ elim b [ true ↦ step.lists ∷ [] | false ↦ [] ]) (elim b [
-        | true ↦ record { search = with_accepted model state.search step.lists; first = cond (lack model state.first == 0) state.first step.lists; words = step.words }
+        | true ↦ record {
+          search = with_accepted model state.search step.lists;
+          first = cond (lack model state.first == 0) state.first step.lists;
+          words = step.words;
+        }
         | false ↦ record { search = tried state.search 1; first = state.first; words = step.words }
       ])) (sym e) (accepted kept state.search.lists state.search.best state.first step.lists state.search.used state.search.found s built tries solutions)
   step_sound kept state step s built tries solutions false e =
       subst (λ b. IsSoundIn (kept ++ elim b [ true ↦ step.lists ∷ [] | false ↦ [] ]) (elim b [
-        | true ↦ record { search = with_accepted model state.search step.lists; first = cond (lack model state.first == 0) state.first step.lists; words = step.words }
+        | true ↦ record {
+          search = with_accepted model state.search step.lists;
+          first = cond (lack model state.first == 0) state.first step.lists;
+          words = step.words;
+        }
         | false ↦ record { search = tried state.search 1; first = state.first; words = step.words }
       ])) (sym e) (subst (λ used. IsSoundAt (kept ++ []) state.search.lists state.search.best state.first used state.search.found) one_tried
-      (subst (λ kept. IsSoundAt kept state.search.lists state.search.best state.first (suc state.search.used) state.search.found) (sym (append-nil kept)) (refused kept state.search.lists state.search.best state.first state.search.used state.search.found s tries)))
+      (subst (λ kept. IsSoundAt kept state.search.lists state.search.best state.first (suc state.search.used) state.search.found)
+      (sym (append-nil kept)) (refused kept state.search.lists state.search.best state.first state.search.used state.search.found s tries)))
     where
       one_tried : suc state.search.used ≡ state.search.used + 1
       one_tried = omega arith
@@ -316,18 +340,25 @@ module _ (model : Model) (well_formed : IsWellFormed model) (limit : Limit) wher
       one_more found solutions low e = grind arith
 
       used_next : (b : Bool) → (let after : RefineState = elim b [
-        | true ↦ record { search = with_accepted model state.search step.lists; first = cond (lack model state.first == 0) state.first step.lists; words = step.words }
+        | true ↦ record {
+          search = with_accepted model state.search step.lists;
+          first = cond (lack model state.first == 0) state.first step.lists;
+          words = step.words;
+        }
         | false ↦ record { search = tried state.search 1; first = state.first; words = step.words }
       ] in after.search.used ≡ suc state.search.used)
       used_next true = refl
       used_next false = omega arith
 
       GoesOn : Type 0
-      GoesOn = (kept : List Lists) → IsSoundIn kept next → next.search.used + left ≤ limit.tries → IsSoundEnd (kept ++ accepted_from model ruin limit left next) (refined_from model ruin limit left next)
+      GoesOn = (kept : List Lists) → IsSoundIn kept next → next.search.used + left ≤ limit.tries
+          → IsSoundEnd (kept ++ accepted_from model ruin limit left next) (refined_from model ruin limit left next)
 
-      going : GoesOn → (state.search.found == limit.solutions) ≡ false → IsSoundEnd (kept ++ kept_by step (accepted_from model ruin limit left next)) (refined_from model ruin limit left next)
+      going : GoesOn → (state.search.found == limit.solutions) ≡ false
+          → IsSoundEnd (kept ++ kept_by step (accepted_from model ruin limit left next)) (refined_from model ruin limit left next)
       going again e =
-          let sound = step_sound kept state step s (steps_stay_open model ruin limit.tries state well_formed s.lists_open) (omega (arith, low)) (one_more state.search.found limit.solutions s.found_few e) step.is_accepted refl in
+          let sound = step_sound kept state step s (steps_stay_open model ruin limit.tries state well_formed s.lists_open)
+          (omega (arith, low)) (one_more state.search.found limit.solutions s.found_few e) step.is_accepted refl in
           let used = used_next step.is_accepted in
           subst (λ kept. IsSoundEnd kept (refined_from model ruin limit left next)) (kept_rest kept (accepted_from model ruin limit left next) step)
           (again (kept ++ kept_by step []) sound (omega (arith, low, used)))
@@ -340,11 +371,14 @@ module _ (model : Model) (well_formed : IsWellFormed model) (limit : Limit) wher
 
   -- ---- the answer
 
-  search_sound : (lists : Lists) (wish : Wish) → AreBuilt model lists → 1 ≤ limit.solutions → IsSoundEnd (lists_kept model lists limit wish) (refined_search model lists limit wish)
+  search_sound : (lists : Lists) (wish : Wish) → AreBuilt model lists → 1 ≤ limit.solutions
+      → IsSoundEnd (lists_kept model lists limit wish) (refined_search model lists limit wish)
   unfolding refined_search
-  search_sound lists wish built some = sound_from (ruin_of model lists wish) limit.tries (lists ∷ []) (refine_begun lists wish.seed) (begins lists built some) (omega arith)
+  search_sound lists wish built some =
+      sound_from (ruin_of model lists wish) limit.tries (lists ∷ []) (refine_begun lists wish.seed) (begins lists built some) (omega arith)
 
-  answer_sound : (lists : Lists) (wish : Wish) (answer : RefineEnd) → AreBuilt model lists → 1 ≤ limit.solutions → refined model lists limit wish ≡ Some answer → IsSoundRefining model lists limit wish answer
+  answer_sound : (lists : Lists) (wish : Wish) (answer : RefineEnd) → AreBuilt model lists → 1 ≤ limit.solutions
+      → refined model lists limit wish ≡ Some answer → IsSoundRefining model lists limit wish answer
   unfolding refined
   answer_sound lists wish answer built some e = by (lack model whole.outcome.best == 0) refl e
     where
@@ -375,7 +409,8 @@ module _ (model : Model) (well_formed : IsWellFormed model) (limit : Limit) wher
           same : Some whole ≡ Some answer → whole ≡ answer
           same e = cc
 
-  answers : (lists : Lists) (wish : Wish) → AreBuilt model lists → 1 ≤ limit.solutions → is_some (refined model lists limit wish) ≡ list_any (is_valid model) (lists_kept model lists limit wish)
+  answers : (lists : Lists) (wish : Wish) → AreBuilt model lists → 1 ≤ limit.solutions
+      → is_some (refined model lists limit wish) ≡ list_any (is_valid model) (lists_kept model lists limit wish)
   unfolding refined
   answers lists wish built some = by (lack model whole.outcome.best == 0) refl
     where
@@ -385,7 +420,8 @@ module _ (model : Model) (well_formed : IsWellFormed model) (limit : Limit) wher
       s : IsSoundEnd (lists_kept model lists limit wish) whole
       s = search_sound lists wish built some
 
-      by : (b : Bool) → (lack model whole.outcome.best == 0) ≡ b → is_some (cond b (Some whole) None) ≡ list_any (is_valid model) (lists_kept model lists limit wish)
+      by : (b : Bool) → (lack model whole.outcome.best == 0) ≡ b
+          → is_some (cond b (Some whole) None) ≡ list_any (is_valid model) (lists_kept model lists limit wish)
       by true f = sym (any_filter (is_valid model) (lists_kept model lists limit wish) whole.outcome.best (λ lists. cost model lists ∷ []) (s.least f))
       by false f = sym (none_filter (is_valid model) (lists_kept model lists limit wish) (s.none f))
 
@@ -407,14 +443,22 @@ module _ (model : Model) (ruin : Ruin) (limit : Limit) where
       step = step_from model ruin limit.tries state
 
       next_first : (b : Bool) → (let after : RefineState = elim b [
-        | true ↦ record { search = with_accepted model state.search step.lists; first = cond (lack model state.first == 0) state.first step.lists; words = step.words }
+        | true ↦ record {
+          search = with_accepted model state.search step.lists;
+          first = cond (lack model state.first == 0) state.first step.lists;
+          words = step.words;
+        }
         | false ↦ record { search = tried state.search 1; first = state.first; words = step.words }
       ] in after.first ≡ state.first)
       next_first true = ap (λ b. cond b state.first step.lists) e
       next_first false = refl
 
-      by : (b : Bool) → ((lack model (after_step model state step).first == 0) ≡ true → (refined_from model ruin limit left (after_step model state step)).first ≡ (after_step model state step).first)
-          → (let end_of : RefineEnd = elim b [ true ↦ stopped limit state | false ↦ with_events (step_events model state step) (refined_from model ruin limit left (after_step model state step)) ] in end_of.first ≡ state.first)
+      by : (b : Bool) → ((lack model (after_step model state step).first == 0) ≡ true
+          → (refined_from model ruin limit left (after_step model state step)).first ≡ (after_step model state step).first)
+          → (let end_of : RefineEnd = elim b [
+            | true ↦ stopped limit state
+            | false ↦ with_events (step_events model state step) (refined_from model ruin limit left (after_step model state step))
+          ] in end_of.first ≡ state.first)
       by true again = refl
       by false again =
           let same = next_first step.is_accepted in
@@ -422,7 +466,8 @@ module _ (model : Model) (ruin : Ruin) (limit : Limit) where
 
 pub valid_first_is_kept : ValidFirstIsKept
 unfolding refined refined_search
-valid_first_is_kept model lists limit wish answer well_formed valid e = by (lack model whole.outcome.best == 0) e ∙ first_stays model (ruin_of model lists wish) limit limit.tries (refine_begun lists wish.seed) none
+valid_first_is_kept model lists limit wish answer well_formed valid e = by (lack model whole.outcome.best == 0) e
+    ∙ first_stays model (ruin_of model lists wish) limit limit.tries (refine_begun lists wish.seed) none
   where
     whole : RefineEnd
     whole = refined_search model lists limit wish

@@ -27,10 +27,12 @@ within_in list (Two p d s t) within = (s, t, within.0, refl)
 
 module _ (model : Model) (list : List ℕ) (placing : Placing) (within : AreWithin list placing) (may : MayHold model list (item_in placing)) where
   pub visits_after : list_all (is_visit model) (placed list placing) ≡ true
-  visits_after = ap (list_all (is_visit model)) (placed_is list placing) ∙ placed-visits model (item_in placing) list (places_in placing) (within_in list placing within) may.item_visits may.visits
+  visits_after = ap (list_all (is_visit model)) (placed_is list placing)
+      ∙ placed-visits model (item_in placing) list (places_in placing) (within_in list placing within) may.item_visits may.visits
 
   pub distinct_after : is_distinct (placed list placing) ≡ true
-  distinct_after = ap is_distinct (placed_is list placing) ∙ placed-distinct (item_in placing) list (places_in placing) (within_in list placing within) may.item_distinct may.distinct may.absent
+  distinct_after = ap is_distinct (placed_is list placing)
+      ∙ placed-distinct (item_in placing) list (places_in placing) (within_in list placing within) may.item_distinct may.distinct may.absent
 
   pub nodes_after : All (λ node. node < model.nodes) (placed list placing)
   nodes_after = visits-below model (placed list placing) visits_after
@@ -39,5 +41,6 @@ module _ (model : Model) (list : List ℕ) (placing : Placing) (within : AreWith
   few_after well = let few = visits-few model (placed list placing) visits_after distinct_after in let n = well.number_of_nodes.1 in omega (arith, few, n)
 
 -- first some places are weighed, then others
-pub best_of_both : (model : Model) (v : ℕ) (list : List ℕ) (best : Option Offer) (xs ys : List Placing) → best_of model v list best (xs ++ ys) ≡ best_of model v list (best_of model v list best xs) ys
+pub best_of_both : (model : Model) (v : ℕ) (list : List ℕ) (best : Option Offer) (xs ys : List Placing)
+    → best_of model v list best (xs ++ ys) ≡ best_of model v list (best_of model v list best xs) ys
 best_of_both model v list best xs ys = fold-append (λ best placing. weigh model list best (offer_for model v list placing)) best xs ys

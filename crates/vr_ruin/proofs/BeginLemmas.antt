@@ -30,20 +30,23 @@ map_cond : {A B : Type 0} (f : A → B) (b : Bool) (x : A) → option_map f (con
 map_cond f true x = refl
 map_cond f false x = refl
 
-module _ {W : Type 0} (after : W → List Event → List ℕ) (model : Model) (lists : List (List ℕ)) (limit : Limit) (wish : Wish) (ruin : Ruin) (left : ℕ) (ruin_is : ruin ≡ ruin_of model lists wish) (left_is : left ≡ limit.tries)
+module _ {W : Type 0} (after : W → List Event → List ℕ) (model : Model) (lists : List (List ℕ)) (limit : Limit)
+    (wish : Wish) (ruin : Ruin) (left : ℕ) (ruin_is : ruin ≡ ruin_of model lists wish) (left_is : left ≡ limit.tries)
     (firsts : List Event) (firsts_are : firsts ≡ first_events model lists) where
   abbrev pub rest : RefineEnd
   rest = refined_from model ruin limit left (refine_begun lists wish.seed)
 
   search_is : refined_search model lists limit wish ≡ with_events firsts rest
   unfolding refined_search
-  search_is = ap₂ (λ ruin left. with_events (first_events model lists) (refined_from model ruin limit left (refine_begun lists wish.seed))) (sym ruin_is) (sym left_is)
+  search_is =
+      ap₂ (λ ruin left. with_events (first_events model lists) (refined_from model ruin limit left (refine_begun lists wish.seed))) (sym ruin_is) (sym left_is)
       ∙ ap (λ events. with_events events rest) (sym firsts_are)
 
   events_are : (refined_search model lists limit wish).outcome.events ≡ firsts ++ rest.outcome.events
   events_are = ap (λ (r : RefineEnd). r.outcome.events) search_is
 
-  module _ (last best : List (List ℕ)) (at : Standing) (old mid new : List W) (stop : End) (told : Reported after old mid firsts) (come : HasComeTo after model rest last best at mid new stop) where
+  module _ (last best : List (List ℕ)) (at : Standing) (old mid new : List W) (stop : End)
+      (told : Reported after old mid firsts) (come : HasComeTo after model rest last best at mid new stop) where
     pub answers : answer_at best at stop ≡ option_map (answer_of model) (refined model lists limit wish)
     unfolding refined
     answers = sym (
@@ -54,9 +57,15 @@ module _ {W : Type 0} (after : W → List Event → List ℕ) (model : Model) (l
         same
         )
       where
-        same : answer_of model (with_events firsts rest) ≡ record { best = best; first_cost = at.first.cost; report = record { tries = at.used; solutions = at.found; «end» = stop } }
-        same = ap₂ (λ best report. let answer : RefineAnswer = record { best = best; first_cost = cost_of; report = report } in answer) come.best_is come.report_is
-            ∙ ap (λ c. let answer : RefineAnswer = record { best = best; first_cost = c; report = record { tries = at.used; solutions = at.found; «end» = stop } } in answer) (sym (ap (λ w. w.cost) come.first_is))
+        same : answer_of model (with_events firsts rest)
+            ≡ record { best = best; first_cost = at.first.cost; report = record { tries = at.used; solutions = at.found; «end» = stop } }
+        same =
+            ap₂ (λ best report. let answer : RefineAnswer = record { best = best; first_cost = cost_of; report = report } in answer) come.best_is come.report_is
+            ∙ ap (λ c. let answer : RefineAnswer = record {
+              best = best;
+              first_cost = c;
+              report = record { tries = at.used; solutions = at.found; «end» = stop };
+            } in answer) (sym (ap (λ w. w.cost) come.first_is))
           where
             cost_of : ℤ
             cost_of = (worth_of model rest.first).cost
@@ -67,15 +76,20 @@ module _ {W : Type 0} (after : W → List Event → List ℕ) (model : Model) (l
     pub tells : Reported after old new (refined_search model lists limit wish).outcome.events
     tells = subst (λ events. Reported after old new events) (sym events_are) (told_both after old mid new firsts rest.outcome.events told come.told)
 
-  pub breaks_at_first : (old new : List W) → ReportedInPart after old new firsts → ReportedInPart after old new (refined_search model lists limit wish).outcome.events
-  breaks_at_first old new in_part = subst (λ events. ReportedInPart after old new events) (sym events_are) (in_part_behind after old old new [] firsts rest.outcome.events (told_nothing after old) in_part)
+  pub breaks_at_first : (old new : List W) → ReportedInPart after old new firsts
+      → ReportedInPart after old new (refined_search model lists limit wish).outcome.events
+  breaks_at_first old new in_part = subst (λ events. ReportedInPart after old new events) (sym events_are)
+      (in_part_behind after old old new [] firsts rest.outcome.events (told_nothing after old) in_part)
 
-  pub breaks_later : (old mid new : List W) → Reported after old mid firsts → ReportedInPart after mid new rest.outcome.events → ReportedInPart after old new (refined_search model lists limit wish).outcome.events
-  breaks_later old mid new told in_part = subst (λ events. ReportedInPart after old new events) (ap (λ events. firsts ++ events) (append-nil rest.outcome.events) ∙ sym events_are)
+  pub breaks_later : (old mid new : List W) → Reported after old mid firsts → ReportedInPart after mid new rest.outcome.events
+      → ReportedInPart after old new (refined_search model lists limit wish).outcome.events
+  breaks_later old mid new told in_part =
+      subst (λ events. ReportedInPart after old new events) (ap (λ events. firsts ++ events) (append-nil rest.outcome.events) ∙ sym events_are)
       (in_part_behind after old mid new firsts rest.outcome.events [] told in_part)
 
 -- the state in which a search begins
-pub begun_in : (model : Model) (lists best : List (List ℕ)) (seed : ℕ) (words : Lcg) (at : Standing) (first : Worth) → best ≡ lists → words ≡ words_of seed → at ≡ record { used = 0; found = 1; here = first; best = first; first = first } → first ≡ worth_of model lists
+pub begun_in : (model : Model) (lists best : List (List ℕ)) (seed : ℕ) (words : Lcg) (at : Standing) (first : Worth) → best ≡ lists
+    → words ≡ words_of seed → at ≡ record { used = 0; found = 1; here = first; best = first; first = first } → first ≡ worth_of model lists
     → IsIn model (refine_begun lists seed) lists best words at
 begun_in model lists best seed words at first best_is words_are at_is first_is = record {
   lists_are = refl;

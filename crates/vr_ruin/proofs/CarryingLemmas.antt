@@ -1,5 +1,6 @@
 -- Lists that a vehicle may drive carry what their items take, wherever these go.
-use Rattle.std.proofs.Common.{◌≡◌, ◌∙◌, ℕ, suc, ◌+◌, ◌<◌, ◌≤◌, ◌++◌, Bool, true, false, cond, List, [], ◌∷◌, length, take, drop, refl, sym, ap, subst, inl, inr, map, arith, add-one, of_z, to_z, w64}
+use Rattle.std.proofs.Common.{◌≡◌, ◌∙◌, ℕ, suc, ◌+◌, ◌<◌, ◌≤◌, ◌++◌, Bool, true, false, cond, List, [], ◌∷◌, length, take, drop, refl, sym, ap, subst, inl, inr}
+use Rattle.std.proofs.Common.{map, arith, add-one, of_z, to_z, w64}
 use Rattle.std.specs.Prelude.{ℤ, slice_index_or, IsTrue, ◌+ℤ◌, ◌==◌, ◌&&◌, ◌||◌, int_le, not, slice_range, None}
 use Rattle.std.specs.List.{list_all}
 use Rattle.std.proofs.lemmas.Int.{ints}
@@ -46,7 +47,8 @@ taken-small model d v has low = small model d has (evaluator_number (dimension_a
 
 -- one visit more, as code adds it up
 pub next-load : (f : ℕ → ℤ) → AreSmall f → (list : List ℕ) → length list ≤ 1000 → (k : ℕ) → k < length list → (first : ℤ) → IsUpTo 1 first → (load more : ℤ)
-    → load ≡ first +ℤ total_by f (take k list) → more ≡ f (slice_index_or list k 0) → to_z w64 (of_z w64 (load +ℤ to_z w64 (of_z w64 more))) ≡ first +ℤ total_by f (take (k + 1) list)
+    → load ≡ first +ℤ total_by f (take k list) → more ≡ f (slice_index_or list k 0)
+    → to_z w64 (of_z w64 (load +ℤ to_z w64 (of_z w64 more))) ≡ first +ℤ total_by f (take (k + 1) list)
 next-load f small list few k low first range load more is next =
     let u = so-far f small list few k in
     let h = small.each (slice_index_or list k 0) in
@@ -69,7 +71,8 @@ total-two f xs ms ys p d =
     let c = total-one f ms ys d in
     omega (arith, ints, a, b, c)
 
-total-placed : (f : ℕ → ℤ) (list : List ℕ) (placing : Placing) → AreWithin list placing → total_by f (placed list placing) ≡ total_by f list +ℤ total_by f (item_nodes (item_in placing))
+total-placed : (f : ℕ → ℤ) (list : List ℕ) (placing : Placing) → AreWithin list placing
+    → total_by f (placed list placing) ≡ total_by f list +ℤ total_by f (item_nodes (item_in placing))
 total-placed f list (One n t) within =
     let a = total-one f (take t list) (drop t list) n in
     let b = ap (total_by f) (take-append-drop t list) in
@@ -81,7 +84,8 @@ total-placed f list (Two p d s t) within =
 
 -- ---- one list
 
-module _ (model : Model) (well : IsWellFormed model) (v : ℕ) (known : v < length model.vehicles) (list : List ℕ) (placing : Placing) (within : AreWithin list placing) where
+module _ (model : Model) (well : IsWellFormed model) (v : ℕ) (known : v < length model.vehicles)
+    (list : List ℕ) (placing : Placing) (within : AreWithin list placing) where
   abbrev after : List ℕ
   after = placed list placing
 
@@ -101,7 +105,8 @@ module _ (model : Model) (well : IsWellFormed model) (v : ℕ) (known : v < leng
       ∙ ap (λ x. int_le x (number_at (dimension_at model d).capacities v)) (load-after d)
 
   -- a vehicle that drives the list carries all
-  carried-in : (d : ℕ) → d < length model.dimensions → is_feasible (line model d v after) ≡ true → (b : Bool) → is_load model d ≡ b → carries_in model v list nodes d ≡ true
+  carried-in : (d : ℕ) → d < length model.dimensions → is_feasible (line model d v after) ≡ true
+      → (b : Bool) → is_load model d ≡ b → carries_in model v list nodes d ≡ true
   carried-in d low feasible true load = ap (λ b. not b || carries model d v list nodes) load ∙ sym (feasible-is d low load) ∙ feasible
   carried-in d low feasible false load = ap (λ b. not b || carries model d v list nodes) load
 
@@ -109,14 +114,17 @@ module _ (model : Model) (well : IsWellFormed model) (v : ℕ) (known : v < leng
   feasible-each opens d low = each_below (λ d. is_feasible (line model d v after)) (length model.dimensions) d
       (and_left (list_all (λ d. is_feasible (line model d v after)) (below (length model.dimensions))) _
       (sym (ap (λ b. b || (list_all (λ d. is_feasible (line model d v after)) (below (length model.dimensions))
-      && (list_all (serves_pair after) model.pairs && (keeps_policy model v after && list_all (allows_vehicle model v) after)))) (some-placed list placing)) ∙ opens)) low
+      && (list_all (serves_pair after) model.pairs && (keeps_policy model v after && list_all (allows_vehicle model v) after)))) (some-placed list placing))
+      ∙ opens)) low
 
   open-carries : is_route_open model v after ≡ true → carries_all model v list nodes ≡ true
-  open-carries opens = all_pass_below (carries_in model v list nodes) (length model.dimensions) (λ d low. carried-in d low (feasible-each opens d low) (is_load model d) refl)
+  open-carries opens =
+      all_pass_below (carries_in model v list nodes) (length model.dimensions) (λ d low. carried-in d low (feasible-each opens d low) (is_load model d) refl)
 
   -- where it carries all, the line is feasible in each load
   pub loads-feasible : carries_all model v list nodes ≡ true → IsCarriedBy model v after
-  loads-feasible all d low load = feasible-is d low load ∙ sym (ap (λ b. not b || carries model d v list nodes) load) ∙ each_below (carries_in model v list nodes) (length model.dimensions) d all low
+  loads-feasible all d low load = feasible-is d low load ∙ sym (ap (λ b. not b || carries model d v list nodes) load)
+      ∙ each_below (carries_in model v list nodes) (length model.dimensions) d all low
 
   -- where it cannot, the list is not open with the item
   pub never-open : carries_all model v list nodes ≡ false → is_route_open model v after ≡ false
@@ -127,12 +135,14 @@ module _ (model : Model) (well : IsWellFormed model) (v : ℕ) (known : v < leng
   plain-open plain all =
       let each : IsTrue (list_all (λ d. is_feasible (line model d v after)) (below (length model.dimensions))) =
       all_pass_below (λ d. is_feasible (line model d v after)) (length model.dimensions) (λ d low.
-      feasible-is d low (plain.loads d low) ∙ sym (ap (λ b. not b || carries model d v list nodes) (plain.loads d low)) ∙ each_below (carries_in model v list nodes) (length model.dimensions) d all low) in
+      feasible-is d low (plain.loads d low) ∙ sym (ap (λ b. not b || carries model d v list nodes) (plain.loads d low))
+      ∙ each_below (carries_in model v list nodes) (length model.dimensions) d all low) in
       let pairs : list_all (serves_pair after) model.pairs ≡ true = ap (list_all (serves_pair after)) plain.pairs in
       let policy : keeps_policy model v after ≡ true = ap (λ ps. keeps_policy (record model { pairs = ps }) v after) plain.pairs in
       let allowed : list_all (allows_vehicle model v) after ≡ true =
       ap (λ rows. list_all (allows_vehicle (record model { allowed = rows }) v) after) plain.allowed ∙ list_all-true (λ n. true) (λ n. refl) after in
-      by (is_empty after) (list_all (λ d. is_feasible (line model d v after)) (below (length model.dimensions))) (list_all (serves_pair after) model.pairs) (keeps_policy model v after) (list_all (allows_vehicle model v) after) each pairs policy allowed
+      by (is_empty after) (list_all (λ d. is_feasible (line model d v after)) (below (length model.dimensions)))
+      (list_all (serves_pair after) model.pairs) (keeps_policy model v after) (list_all (allows_vehicle model v) after) each pairs policy allowed
     where
       by : (a b c d e : Bool) → b ≡ true → c ≡ true → d ≡ true → e ≡ true → (a || (b && (c && (d && e)))) ≡ true
       by true b c d e p q r s = refl
@@ -141,7 +151,8 @@ module _ (model : Model) (well : IsWellFormed model) (v : ℕ) (known : v < leng
 -- ---- a list that is not empty
 
 -- it is not open if some line is not feasible
-pub closed-by_lines : (model : Model) (v : ℕ) (list : List ℕ) → is_empty list ≡ false → false ≡ is_feasible_in_each model v list → false ≡ is_route_open model v list
+pub closed-by_lines : (model : Model) (v : ℕ) (list : List ℕ) → is_empty list ≡ false
+    → false ≡ is_feasible_in_each model v list → false ≡ is_route_open model v list
 closed-by_lines model v list some lines =
     sym (λ i. some i || (sym lines i && (list_all (serves_pair list) model.pairs && (keeps_policy model v list && list_all (allows_vehicle model v) list))))
 
@@ -173,7 +184,8 @@ free-rest model v list free =
     by : (a b c : Bool) → a ≡ true → b ≡ true → c ≡ true → ((a && b) && c) ≡ true
     by a b c p q r = ap (λ a. (a && b) && c) p ∙ ap (λ b. b && c) q ∙ r
 
-pub open-if_free : (model : Model) (v : ℕ) (list : List ℕ) → IsFree model → is_empty list ≡ false → true ≡ is_feasible_in_each model v list → true ≡ is_route_open model v list
+pub open-if_free : (model : Model) (v : ℕ) (list : List ℕ) → IsFree model → is_empty list ≡ false
+    → true ≡ is_feasible_in_each model v list → true ≡ is_route_open model v list
 open-if_free model v list free some lines = sym (free-rest model v list free) ∙ open-by_rest model v list some lines
 
 -- ---- all places
@@ -181,18 +193,21 @@ open-if_free model v list free some lines = sym (free-rest model v list free) �
 within-all : (list : List ℕ) (item : Item) (placing : Placing) → In (placings_of list item) placing → AreWithin list placing × (item_in placing ≡ item)
 within-all list (Visit n) placing among = from_map (One n) (gaps list) placing among (λ t there same.
     subst (λ p. AreWithin list p × (item_in p ≡ Visit n)) (sym same) ((let l = of_below (suc (length list)) t there in omega (arith, l)), refl))
-within-all list (PickupAndDelivery p d) placing among = from_each (λ s. map (Two p d s) (from_to s (suc (length list)))) (gaps list) placing among (λ s there at.
+within-all list (PickupAndDelivery p d) placing among =
+    from_each (λ s. map (Two p d s) (from_to s (suc (length list)))) (gaps list) placing among (λ s there at.
     from_map (Two p d s) (from_to s (suc (length list))) placing at (λ t between same. let range = of_from_to s (suc (length list)) t between in
     subst (λ q. AreWithin list q × (item_in q ≡ PickupAndDelivery p d)) (sym same) ((range.0, (let h = range.1 in omega (arith, h))), refl)))
 
-none-stays : (model : Model) (v : ℕ) (list : List ℕ) (placings : List Placing) → ((p : Placing) → In placings p → is_route_open model v (placed list p) ≡ false) → best_of model v list None placings ≡ None
+none-stays : (model : Model) (v : ℕ) (list : List ℕ) (placings : List Placing)
+    → ((p : Placing) → In placings p → is_route_open model v (placed list p) ≡ false) → best_of model v list None placings ≡ None
 none-stays model v list [] none = refl
 none-stays model v list (p ∷ ps) none =
     ap (λ b. best_of model v list (cond b (better key_of None (offer_for model v list p)) None) ps) (none p (inl refl))
     ∙ none-stays model v list ps (λ q there. none q (inr there))
 
 -- where the vehicle cannot carry the item too, none of its places is the best
-pub none-best : (model : Model) → IsWellFormed model → (v : ℕ) → v < length model.vehicles → (list : List ℕ) (item : Item) → carries_all model v list (item_nodes item) ≡ false
+pub none-best : (model : Model) → IsWellFormed model → (v : ℕ) → v < length model.vehicles
+    → (list : List ℕ) (item : Item) → carries_all model v list (item_nodes item) ≡ false
     → None ≡ best_of model v list None (placings_of list item)
 none-best model well v known list item lacks = sym (none-stays model v list (placings_of list item) (λ p there.
     let at = within-all list item p there in

@@ -40,8 +40,13 @@ module _ (lists : List (List ℕ)) (visit v k : ℕ) (once : IsOnce lists) (seat
   -- where a vehicle has the visit in its list, it is there
   seat_of : (w : ℕ) → w < length lists → holds (route lists w) visit ≡ true → IsSeat lists visit w (place_of (route lists w) visit)
   seat_of w low held =
-      let inside : place_of (route lists w) visit < length (route lists w) = lt_of_test (place_of (route lists w) visit) (length (route lists w)) (sym (holds-place (route lists w) visit) ∙ held) in
-      record { vehicle = low; place = inside; found = eqb-true (slice_index (route lists w) (place_of (route lists w) visit)) visit (passes_at_first (λ x. x == visit) (route lists w) 0 inside) }
+      let inside : place_of (route lists w) visit < length (route lists w) = lt_of_test (place_of (route lists w) visit)
+      (length (route lists w)) (sym (holds-place (route lists w) visit) ∙ held) in
+      record {
+        vehicle = low;
+        place = inside;
+        found = eqb-true (slice_index (route lists w) (place_of (route lists w) visit)) visit (passes_at_first (λ x. x == visit) (route lists w) 0 inside);
+      }
 
   held : holds (route lists v) visit ≡ true
   held = held_at (route lists v) visit k seat.place seat.found
@@ -58,8 +63,10 @@ module _ (lists : List (List ℕ)) (visit v k : ℕ) (once : IsOnce lists) (seat
 
 module _ (model : Model) (longest visit v : ℕ) (lists : List (List ℕ)) (cut : List ℕ) (words : Lcg) where
   -- its list is cut at a string that was drawn
-  pub cut_in_is : (after : List (List ℕ)) (added : List ℕ) (later : Lcg) (string : StringPlaces) (n k : ℕ) → after ≡ with_route lists v (list_after_string model v (route lists v) string) → added ≡ v ∷ cut
-      → (string, later) ≡ drawn_string longest n k words → n ≡ length (route lists v) → place_of (route lists v) visit ≡ k → ruined_of after added later ≡ cut_in model longest visit v (ruined_of lists cut words)
+  pub cut_in_is : (after : List (List ℕ)) (added : List ℕ) (later : Lcg) (string : StringPlaces) (n k : ℕ)
+      → after ≡ with_route lists v (list_after_string model v (route lists v) string) → added ≡ v ∷ cut
+      → (string, later) ≡ drawn_string longest n k words → n ≡ length (route lists v) → place_of (route lists v) visit ≡ k
+      → ruined_of after added later ≡ cut_in model longest visit v (ruined_of lists cut words)
   cut_in_is after added later string n k written more drawn long at =
       let drawn_at = drawn ∙ ap₂ (λ n k. drawn_string longest n k words) long (sym at) in
       let lists_are = written ∙ ap (λ d. with_route lists v (list_after_string model v (route lists v) d.0)) drawn_at in

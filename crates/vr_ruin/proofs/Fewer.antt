@@ -41,7 +41,8 @@ distinct_left p [] d = d
 distinct_left p (y ∷ ys) d = by (p y) (distinct_left p ys (and_right (not (holds ys y)) (is_distinct ys) d))
   where
     absent : holds (filter p ys) y ≡ false
-    absent = fails (holds (filter p ys) y) (λ h. clash (holds ys y) (holds_left p ys y h) (fails_not (holds ys y) (and_left (not (holds ys y)) (is_distinct ys) d)))
+    absent =
+        fails (holds (filter p ys) y) (λ h. clash (holds ys y) (holds_left p ys y h) (fails_not (holds ys y) (and_left (not (holds ys y)) (is_distinct ys) d)))
 
     by : (b : Bool) → is_distinct (filter p ys) ≡ true → is_distinct (cond b (y ∷ filter p ys) (filter p ys)) ≡ true
     by false rest = rest
@@ -68,7 +69,8 @@ held_passes q (y ∷ ys) x all h = by (x == y) refl h (held_passes q ys x (and_r
 all_of_part : (q : ℕ → Bool) (list whole : List ℕ) → ((x : ℕ) → holds list x ≡ true → holds whole x ≡ true) → list_all q whole ≡ true → list_all q list ≡ true
 all_of_part q [] whole held all = refl
 all_of_part q (x ∷ xs) whole held all =
-    and_both (q x) (list_all q xs) (held_passes q whole x all (held x (ap (λ b. b || holds xs x) (eq-eqb x x refl)))) (all_of_part q xs whole (λ y h. held y (passes_more (y == x) (holds xs y) h)) all)
+    and_both (q x) (list_all q xs) (held_passes q whole x all (held x (ap (λ b. b || holds xs x) (eq-eqb x x refl))))
+    (all_of_part q xs whole (λ y h. held y (passes_more (y == x) (holds xs y) h)) all)
 
 pub all_left : (q p : ℕ → Bool) (xs : List ℕ) → list_all q xs ≡ true → list_all q (filter p xs) ≡ true
 all_left q p xs all = all_of_part q (filter p xs) xs (holds_left p xs) all
@@ -79,7 +81,8 @@ set_same [] v low = refl
 set_same (l ∷ ls) zero low = refl
 set_same (l ∷ ls) (suc v) low = ap (λ rest. l ∷ rest) (set_same ls v (omega (arith, low)))
 
-active_fewer : (lists : List (List ℕ)) (v : ℕ) (list : List ℕ) → v < length lists → IsPart list (route lists v) → (x : ℕ) → is_active (with_route lists v list) x ≡ true → is_active lists x ≡ true
+active_fewer : (lists : List (List ℕ)) (v : ℕ) (list : List ℕ) → v < length lists → IsPart list (route lists v)
+    → (x : ℕ) → is_active (with_route lists v list) x ≡ true → is_active lists x ≡ true
 active_fewer [] v list low part x h = absurd (omega (arith, low))
 active_fewer (l ∷ ls) zero list low part x h = by (holds list x) refl h
   where
@@ -88,40 +91,52 @@ active_fewer (l ∷ ls) zero list low part x h = by (holds list x) refl h
     by false e h = passes_more (holds l x) (is_active ls x) h
 active_fewer (l ∷ ls) (suc v) list low part x h = by (holds l x) h (active_fewer ls v list (omega (arith, low)) part x)
   where
-    by : (b : Bool) → (b || is_active (with_route ls v list) x) ≡ true → (is_active (with_route ls v list) x ≡ true → is_active ls x ≡ true) → (b || is_active ls x) ≡ true
+    by : (b : Bool) → (b || is_active (with_route ls v list) x) ≡ true
+        → (is_active (with_route ls v list) x ≡ true → is_active ls x ≡ true) → (b || is_active ls x) ≡ true
     by true h later = refl
     by false h later = later h
 
-all_fewer : (q : ℕ → Bool) (lists : List (List ℕ)) (v : ℕ) (list : List ℕ) → v < length lists → IsPart list (route lists v) → list_all q (concat lists) ≡ true → list_all q (concat (with_route lists v list)) ≡ true
+all_fewer : (q : ℕ → Bool) (lists : List (List ℕ)) (v : ℕ) (list : List ℕ) → v < length lists
+    → IsPart list (route lists v) → list_all q (concat lists) ≡ true → list_all q (concat (with_route lists v list)) ≡ true
 all_fewer q [] v list low part h = absurd (omega (arith, low))
 all_fewer q (l ∷ ls) zero list low part h =
     let both = sym (list_all-append q l (concat ls)) ∙ h in
-    list_all-append q list (concat ls) ∙ and_both (list_all q list) (list_all q (concat ls)) (all_of_part q list l part.held (and_left (list_all q l) (list_all q (concat ls)) both)) (and_right (list_all q l) (list_all q (concat ls)) both)
+    list_all-append q list (concat ls) ∙ and_both (list_all q list) (list_all q (concat ls))
+    (all_of_part q list l part.held (and_left (list_all q l) (list_all q (concat ls)) both)) (and_right (list_all q l) (list_all q (concat ls)) both)
 all_fewer q (l ∷ ls) (suc v) list low part h =
     let both = sym (list_all-append q l (concat ls)) ∙ h in
     list_all-append q l (concat (with_route ls v list))
-    ∙ and_both (list_all q l) (list_all q (concat (with_route ls v list))) (and_left (list_all q l) (list_all q (concat ls)) both) (all_fewer q ls v list (omega (arith, low)) part (and_right (list_all q l) (list_all q (concat ls)) both))
+    ∙ and_both (list_all q l) (list_all q (concat (with_route ls v list))) (and_left (list_all q l) (list_all q (concat ls)) both)
+    (all_fewer q ls v list (omega (arith, low)) part (and_right (list_all q l) (list_all q (concat ls)) both))
 
-distinct_fewer : (lists : List (List ℕ)) (v : ℕ) (list : List ℕ) → v < length lists → IsPart list (route lists v) → is_distinct (concat lists) ≡ true → is_distinct (concat (with_route lists v list)) ≡ true
+distinct_fewer : (lists : List (List ℕ)) (v : ℕ) (list : List ℕ) → v < length lists → IsPart list (route lists v)
+    → is_distinct (concat lists) ≡ true → is_distinct (concat (with_route lists v list)) ≡ true
 distinct_fewer [] v list low part d = absurd (omega (arith, low))
-distinct_fewer (l ∷ ls) zero list low part d = is_distinct-both list (concat ls) part.distinct (is_distinct-right l (concat ls) d) (λ x h. is_distinct-apart l (concat ls) d x (part.held x h))
+distinct_fewer (l ∷ ls) zero list low part d =
+    is_distinct-both list (concat ls) part.distinct (is_distinct-right l (concat ls) d) (λ x h. is_distinct-apart l (concat ls) d x (part.held x h))
 distinct_fewer (l ∷ ls) (suc v) list low part d =
-    is_distinct-both l (concat (with_route ls v list)) (is_distinct-left l (concat ls) d) (distinct_fewer ls v list (omega (arith, low)) part (is_distinct-right l (concat ls) d))
+    is_distinct-both l (concat (with_route ls v list)) (is_distinct-left l (concat ls) d)
+    (distinct_fewer ls v list (omega (arith, low)) part (is_distinct-right l (concat ls) d))
     (λ x h. fails (holds (concat (with_route ls v list)) x) (λ there.
-    clash (holds (concat ls) x) (sym (is_active-concat ls x) ∙ active_fewer ls v list (omega (arith, low)) part x (is_active-concat (with_route ls v list) x ∙ there)) (is_distinct-apart l (concat ls) d x h)))
+    clash (holds (concat ls) x)
+    (sym (is_active-concat ls x) ∙ active_fewer ls v list (omega (arith, low)) part x (is_active-concat (with_route ls v list) x ∙ there))
+    (is_distinct-apart l (concat ls) d x h)))
 
 -- ---- what stays open
 
 opened : (model : Model) (lists : List (List ℕ)) (v : ℕ) (list : List ℕ) → v < length lists → is_route_open model v list ≡ true
-    → list_all (λ w. is_route_open model w (route lists w)) (vehicles lists) ≡ true → list_all (λ w. is_route_open model w (route (with_route lists v list) w)) (vehicles (with_route lists v list)) ≡ true
-opened model lists v list low passes all = range_list_all (λ w. is_route_open model w (route (with_route lists v list) w)) 0 (length (with_route lists v list)) (λ w start end. each w (omega (arith, end, count)) (w == v) refl)
+    → list_all (λ w. is_route_open model w (route lists w)) (vehicles lists) ≡ true
+    → list_all (λ w. is_route_open model w (route (with_route lists v list) w)) (vehicles (with_route lists v list)) ≡ true
+opened model lists v list low passes all = range_list_all (λ w. is_route_open model w (route (with_route lists v list) w))
+    0 (length (with_route lists v list)) (λ w start end. each w (omega (arith, end, count)) (w == v) refl)
   where
     count : length (with_route lists v list) ≡ length lists
     count = length-set lists v list
 
     each : (w : ℕ) → w < length lists → (b : Bool) → (w == v) ≡ b → is_route_open model w (route (with_route lists v list) w) ≡ true
     each w low_w true e = let same : v ≡ w = sym (eqb-true w v e) in
-        subst (λ w. is_route_open model w (route (with_route lists v list) w) ≡ true) same (ap (is_route_open model v) (route_set_same lists v list low) ∙ passes)
+        subst (λ w. is_route_open model w (route (with_route lists v list) w) ≡ true)
+        same (ap (is_route_open model v) (route_set_same lists v list low) ∙ passes)
     each w low_w false e = ap (is_route_open model w) (route_set_other lists v w list (λ same. clash (w == v) (eq-eqb w v same) e))
         ∙ list_all_range (λ w. is_route_open model w (route lists w)) 0 (length lists) all w (omega arith) (omega (arith, low_w))
 
@@ -129,16 +144,20 @@ count_fewer : (p q : ℕ → Bool) (xs : List ℕ) → ((x : ℕ) → p x ≡ tr
 count_fewer p q [] h = omega arith
 count_fewer p q (x ∷ xs) h = by (p x) (q x) (h x) (count_fewer p q xs h)
   where
-    by : (a b : Bool) → (a ≡ true → b ≡ true) → length (filter p xs) ≤ length (filter q xs) → length (cond a (x ∷ filter p xs) (filter p xs)) ≤ length (cond b (x ∷ filter q xs) (filter q xs))
+    by : (a b : Bool) → (a ≡ true → b ≡ true) → length (filter p xs) ≤ length (filter q xs)
+        → length (cond a (x ∷ filter p xs) (filter p xs)) ≤ length (cond b (x ∷ filter q xs) (filter q xs))
     by true true g rest = omega (arith, rest)
     by true false g rest = absurd (clash false (g refl) refl)
     by false true g rest = omega (arith, rest)
     by false false g rest = rest
 
-fits_fewer : (groups : List Group) (lists fewer : List (List ℕ)) → ((x : ℕ) → is_active fewer x ≡ true → is_active lists x ≡ true) → list_all (fits_group lists) groups ≡ true → list_all (fits_group fewer) groups ≡ true
+fits_fewer : (groups : List Group) (lists fewer : List (List ℕ)) → ((x : ℕ) → is_active fewer x ≡ true → is_active lists x ≡ true)
+    → list_all (fits_group lists) groups ≡ true → list_all (fits_group fewer) groups ≡ true
 fits_fewer [] lists fewer h all = refl
 fits_fewer (g ∷ gs) lists fewer h all =
-    and_both (fits_group fewer g) (list_all (fits_group fewer) gs) (within (active_in fewer g) (active_in lists g) g.max few (nat_of_test (active_in lists g) g.max (and_left (fits_group lists g) (list_all (fits_group lists) gs) all)))
+    and_both (fits_group fewer g) (list_all (fits_group fewer) gs)
+    (within (active_in fewer g) (active_in lists g) g.max few
+    (nat_of_test (active_in lists g) g.max (and_left (fits_group lists g) (list_all (fits_group lists) gs) all)))
     (fits_fewer gs lists fewer h (and_right (fits_group lists g) (list_all (fits_group lists) gs) all))
   where
     few : active_in fewer g ≤ active_in lists g
@@ -149,18 +168,23 @@ fits_fewer (g ∷ gs) lists fewer h all =
     within m n k h g = grind arith
 
 -- open lists of a model stay such lists
-pub built_fewer : (model : Model) (lists : List (List ℕ)) (v : ℕ) (list : List ℕ) → AreBuilt model lists → v < length lists → IsPart list (route lists v) → is_route_open model v list ≡ true
+pub built_fewer : (model : Model) (lists : List (List ℕ)) (v : ℕ) (list : List ℕ) → AreBuilt model lists
+    → v < length lists → IsPart list (route lists v) → is_route_open model v list ≡ true
     → AreBuilt model (with_route lists v list)
 unfolding is_open
 built_fewer model lists v list built low part passes =
     let rest = and_right (length lists == length model.vehicles) _ built.are_lists in
     let count = length-set lists v list ∙ are_lists-count model lists built.are_lists in
     record {
-      are_lists = and_both (length (with_route lists v list) == length model.vehicles) _ (eq-eqb (length (with_route lists v list)) (length model.vehicles) count)
+      are_lists =
+          and_both (length (with_route lists v list) == length model.vehicles) _ (eq-eqb (length (with_route lists v list)) (length model.vehicles) count)
           (and_both (list_all (is_visit model) (concat (with_route lists v list))) (is_distinct (concat (with_route lists v list)))
           (all_fewer (is_visit model) lists v list low part (and_left (list_all (is_visit model) (concat lists)) (is_distinct (concat lists)) rest))
           (distinct_fewer lists v list low part (and_right (list_all (is_visit model) (concat lists)) (is_distinct (concat lists)) rest)));
-      are_open = and_both (list_all (λ w. is_route_open model w (route (with_route lists v list) w)) (vehicles (with_route lists v list))) (list_all (fits_group (with_route lists v list)) model.groups)
-          (opened model lists v list low passes (and_left (list_all (λ w. is_route_open model w (route lists w)) (vehicles lists)) (list_all (fits_group lists) model.groups) built.are_open))
-          (fits_fewer model.groups lists (with_route lists v list) (active_fewer lists v list low part) (and_right (list_all (λ w. is_route_open model w (route lists w)) (vehicles lists)) (list_all (fits_group lists) model.groups) built.are_open));
+      are_open = and_both (list_all (λ w. is_route_open model w (route (with_route lists v list) w)) (vehicles (with_route lists v list)))
+          (list_all (fits_group (with_route lists v list)) model.groups)
+          (opened model lists v list low passes
+          (and_left (list_all (λ w. is_route_open model w (route lists w)) (vehicles lists)) (list_all (fits_group lists) model.groups) built.are_open))
+          (fits_fewer model.groups lists (with_route lists v list) (active_fewer lists v list low part)
+          (and_right (list_all (λ w. is_route_open model w (route lists w)) (vehicles lists)) (list_all (fits_group lists) model.groups) built.are_open));
     }

@@ -56,7 +56,8 @@ visit_shares list t x le =
     }
 
 -- a pair before places s and t
-pair_shares : (pair : Pair) (list : List ℕ) (s t : ℕ) → s ≤ t → t ≤ length list → SharesEnds list (with_pair pair s t list) (record { front = s; back = length list - t })
+pair_shares : (pair : Pair) (list : List ℕ) (s t : ℕ) → s ≤ t → t ≤ length list
+    → SharesEnds list (with_pair pair s t list) (record { front = s; back = length list - t })
 pair_shares pair list s t order le =
     let half : List ℕ = insert list s pair.pickup in
     let n = length-insert list s pair.pickup (omega (arith, order, le)) in
@@ -65,12 +66,14 @@ pair_shares pair list s t order le =
     let new : length (insert half (suc t) pair.delivery) - (length list - t) ≡ suc (suc t) = omega (arith, le, n, m) in
     subst (λ new. SharesEnds list new (record { front = s; back = length list - t })) (sym (pair_is pair list s t order le)) (record {
       front = record {
-        same = taken list s s pair.pickup (omega arith) (omega (arith, order, le)) ∙ taken half s (suc t) pair.delivery (omega (arith, order)) (omega (arith, n, le));
+        same = taken list s s pair.pickup (omega arith) (omega (arith, order, le))
+            ∙ taken half s (suc t) pair.delivery (omega (arith, order)) (omega (arith, n, le));
         within_old = omega (arith, order, le);
         within_new = omega (arith, n, m, order, le);
       };
       back = record {
-        same = ap (λ k. drop k list) old ∙ dropped list s t pair.pickup order le ∙ dropped half (suc t) (suc t) pair.delivery (omega arith) (omega (arith, n, le))
+        same = ap (λ k. drop k list) old ∙ dropped list s t pair.pickup order le
+            ∙ dropped half (suc t) (suc t) pair.delivery (omega arith) (omega (arith, n, le))
             ∙ sym (ap (λ k. drop k (insert half (suc t) pair.delivery)) new);
         within_old = omega arith;
         within_new = omega (arith, n, m);
@@ -84,7 +87,8 @@ placed-shares list (One n t) within = visit_shares list t n within
 placed-shares list (Two p d s t) within = pair_shares (record { pickup = p; delivery = d }) list s t within.0 within.1
 
 -- the list with the item is that of a used vehicle
-pub placed-used : (model : Model) (list : List ℕ) (placing : Placing) → AreWithin list placing → MayHold model list (item_in placing) → IsUsed model (placed list placing)
+pub placed-used : (model : Model) (list : List ℕ) (placing : Placing) → AreWithin list placing
+    → MayHold model list (item_in placing) → IsUsed model (placed list placing)
 placed-used model list placing within may = record {
   some = some-placed list placing;
   tour = record { visits = visits_after model list placing within may; distinct = distinct_after model list placing within may };

@@ -9,7 +9,8 @@ use Rattle.vr_ruin.specs.declared.known.KnownRoute.{KnownRoute}
 use Rattle.vr_ruin.specs.Known.{AreKnownRoutes, IsKnownRoute}
 
 -- of the empty list nothing is known
-pub none-known : (model : Model) (v : ℕ) (route : KnownRoute) → length route.rows.items ≡ length model.dimensions → route.nodes ≡ [] → IsKnownRoute model v route
+pub none-known : (model : Model) (v : ℕ) (route : KnownRoute)
+    → length route.rows.items ≡ length model.dimensions → route.nodes ≡ [] → IsKnownRoute model v route
 none-known model v route many none = record {
   many = many;
   rows_are = λ d other low no_load used. absurd (clash (is_empty route.nodes) (ap is_empty none) used);
@@ -18,7 +19,8 @@ none-known model v route many none = record {
 }
 
 -- another list of one vehicle
-pub known-set : (model : Model) (routes : List KnownRoute) (v : ℕ) (route : KnownRoute) → AreKnownRoutes model routes → IsKnownRoute model v route → AreKnownRoutes model (set routes v route)
+pub known-set : (model : Model) (routes : List KnownRoute) (v : ℕ) (route : KnownRoute)
+    → AreKnownRoutes model routes → IsKnownRoute model v route → AreKnownRoutes model (set routes v route)
 known-set model routes v route are is = record {
   many = length-set routes v route ∙ are.many;
   each = λ w other low. let n = length-set routes v route in elim (eqb_tells w v) [

@@ -1,5 +1,6 @@
 -- Open lists are valid exactly if they lack nothing.
-use Rattle.std.proofs.Common.{◌≡◌, ◌∙◌, ◌<◌, ◌≤◌, ◌+◌, ◌-◌, ◌⊎◌, ℕ, suc, List, [], ◌∷◌, Bool, true, false, cond, not, Option, Some, None, inl, inr, refl, ap, ap₂, sym, subst, arith, length, get_or}
+use Rattle.std.proofs.Common.{◌≡◌, ◌∙◌, ◌<◌, ◌≤◌, ◌+◌, ◌-◌, ◌⊎◌, ℕ, suc, List, [], ◌∷◌, Bool, true, false, cond, not, Option, Some, None, inl, inr, refl, ap}
+use Rattle.std.proofs.Common.{ap₂, sym, subst, arith, length, get_or}
 use Rattle.std.specs.Prelude.{◌&&◌, ◌||◌, ◌==◌, filter, min, ℤ}
 use Rattle.std.specs.List.{list_all}
 use Rattle.std.proofs.lemmas.Bool.{eqb-true, eq-eqb}
@@ -69,10 +70,13 @@ pickup-absent model v [] k pair low is passes absent = refl
 pickup-absent model v (x ∷ xs) k pair low is passes absent =
     let list : List ℕ = x ∷ xs in
     let all = and_left (list_all (serves_pair list) model.pairs) _ (and_right _ _ passes) in
-    let served : serves_pair list pair ≡ true = subst (λ p. serves_pair list p ≡ true) (is pair) (all-from_list_all (serves_pair list) model.pairs all k pair low) in
-    unserved (holds list pair.pickup) (holds list pair.delivery) (comes_before list pair.pickup pair.delivery) served absent (comes_before-none list pair.pickup pair.delivery absent)
+    let served : serves_pair list pair ≡ true = subst (λ p. serves_pair list p ≡ true)
+    (is pair) (all-from_list_all (serves_pair list) model.pairs all k pair low) in
+    unserved (holds list pair.pickup) (holds list pair.delivery) (comes_before list pair.pickup pair.delivery)
+    served absent (comes_before-none list pair.pickup pair.delivery absent)
 
-item-active : (model : Model) (lists : List (List ℕ)) (item : Item) → IsItem model item → is_open model lists ≡ true → is_active lists (first_node (item_nodes item)) ≡ true
+item-active : (model : Model) (lists : List (List ℕ)) (item : Item) → IsItem model item
+    → is_open model lists ≡ true → is_active lists (first_node (item_nodes item)) ≡ true
     → (node : ℕ) → holds (item_nodes item) node ≡ true → is_active lists node ≡ true
 item-active model lists (Visit n) valid h first node there = subst (λ m. is_active lists m ≡ true) (sym (one_of node n there)) first
 item-active model lists (PickupAndDelivery p d) valid h first node there = by (node == p) refl there
@@ -82,7 +86,9 @@ item-active model lists (PickupAndDelivery p d) valid h first node there = by (n
 
     second : is_active lists d ≡ true
     second = passes (is_active lists d) (λ absent. clash (is_active lists p) first
-        (inactive_in_each lists p (λ v low. pickup-absent model v (route lists v) valid.of_pairs.0 pair valid.of_pairs.1 valid.of_pairs.2 (open-route model lists v h low) (inactive-route lists d v absent))))
+        (inactive_in_each lists p
+        (λ v low. pickup-absent model v (route lists v) valid.of_pairs.0 pair valid.of_pairs.1
+        valid.of_pairs.2 (open-route model lists v h low) (inactive-route lists d v absent))))
       where
         passes : (b : Bool) → (b ≡ false → ⊥) → b ≡ true
         passes true f = refl
@@ -117,8 +123,10 @@ class_zero model (Visit n) x there e = least_zero 2 (node_class model n) (inr (s
 class_zero model (PickupAndDelivery p d) x there e = by (x == p) refl there
   where
     by : (b : Bool) → (x == p) ≡ b → (b || ((x == d) || false)) ≡ true → min (min 2 (node_class model p)) (node_class model d) ≡ 0
-    by true same t = least_zero (min 2 (node_class model p)) (node_class model d) (inl (least_zero 2 (node_class model p) (inr (subst (λ y. node_class model y ≡ 0) (eqb-true x p same) (ungrouped model x e)))))
-    by false same t = least_zero (min 2 (node_class model p)) (node_class model d) (inr (subst (λ y. node_class model y ≡ 0) (one_of x d t) (ungrouped model x e)))
+    by true same t = least_zero (min 2 (node_class model p)) (node_class model d)
+        (inl (least_zero 2 (node_class model p) (inr (subst (λ y. node_class model y ≡ 0) (eqb-true x p same) (ungrouped model x e)))))
+    by false same t =
+        least_zero (min 2 (node_class model p)) (node_class model d) (inr (subst (λ y. node_class model y ≡ 0) (one_of x d t) (ungrouped model x e)))
 
 -- .. and only then
 zero_class : (model : Model) (item : Item) → class model (item_nodes item) ≡ 0 → (x : ℕ) × (holds (item_nodes item) x ≡ true) × (is_grouped model x ≡ false)
@@ -136,27 +144,34 @@ zero_class model (PickupAndDelivery p d) e = by (is_grouped model p) (is_grouped
     by : (a b : Bool) → is_grouped model p ≡ a → is_grouped model d ≡ b → (x : ℕ) × (holds (p ∷ d ∷ []) x ≡ true) × (is_grouped model x ≡ false)
     by false b f g = (p, ap (λ b. b || ((p == d) || false)) (eq-eqb p p refl), f)
     by true false f g = (d, ap (λ b. (d == p) || (b || false)) (eq-eqb d d refl) ∙ last (d == p), g)
-    by true true f g = absurd (let some = least_some (min 2 (node_class model p)) (node_class model d) (least_some 2 (node_class model p) (omega arith) (grouped model p f)) (grouped model d g) in omega (arith, e, some))
+    by true true f g = absurd (let some = least_some (min 2 (node_class model p)) (node_class model d)
+        (least_some 2 (node_class model p) (omega arith) (grouped model p f)) (grouped model d g) in omega (arith, e, some))
 
 -- ---- items that are missing
 
 module _ (model : Model) (well_formed : IsWellFormed model) (lists : List (List ℕ)) (built : AreBuilt model lists) where
   required_where_none : missing_items model lists ≡ 0 → has_required model lists ≡ true
-  required_where_none none = all_of_members (λ node. is_grouped model node || is_active lists node) (visits model) (λ x among. by x (of_filter (is_visit model) (below model.nodes) x among).1 (is_grouped model x) refl)
+  required_where_none none = all_of_members (λ node. is_grouped model node || is_active lists node) (visits model)
+      (λ x among. by x (of_filter (is_visit model) (below model.nodes) x among).1 (is_grouped model x) refl)
     where
       active : (x : ℕ) → is_visit model x ≡ true → is_grouped model x ≡ false → is_active lists x ≡ true
       active x visit free =
           let found = in_item model well_formed x visit in
           let is = item_is model well_formed found.0 found.1 in
           let there : holds (item_nodes is.0) x ≡ true = subst (λ nodes. holds nodes x ≡ true) (sym is.1) found.2 in
-          first x found.0 is.0 is.1 is.2 found.1 there (subst (λ nodes. class model nodes ≡ 0) is.1 (class_zero model is.0 x there free)) (is_active lists (first_node found.0)) refl
+          first x found.0 is.0 is.1 is.2 found.1 there
+          (subst (λ nodes. class model nodes ≡ 0) is.1 (class_zero model is.0 x there free)) (is_active lists (first_node found.0)) refl
         where
-          first : (x : ℕ) (nodes : List ℕ) (item : Item) → item_nodes item ≡ nodes → IsItem model item → In (items model) nodes → holds (item_nodes item) x ≡ true → class model nodes ≡ 0
+          first : (x : ℕ) (nodes : List ℕ) (item : Item) → item_nodes item ≡ nodes → IsItem model item
+              → In (items model) nodes → holds (item_nodes item) x ≡ true → class model nodes ≡ 0
               → (b : Bool) → is_active lists (first_node nodes) ≡ b → is_active lists x ≡ true
-          first x nodes item same valid among there zero_class true e = item-active model lists item valid built.are_open (ap (λ n. is_active lists (first_node n)) same ∙ e) x there
-          first x nodes item same valid among there zero_class false e = absurd (some_member (filter (λ item. class model item == 0) (unplaced model lists)) nodes
+          first x nodes item same valid among there zero_class true e =
+              item-active model lists item valid built.are_open (ap (λ n. is_active lists (first_node n)) same ∙ e) x there
+          first x nodes item same valid among there zero_class false e =
+              absurd (some_member (filter (λ item. class model item == 0) (unplaced model lists)) nodes
               (to_filter (λ item. class model item == 0) (unplaced model lists) nodes
-              (to_filter (λ item. not (is_active lists (first_node item))) (items model) nodes among (ap not e)) (eq-eqb (class model nodes) 0 zero_class)) none)
+              (to_filter (λ item. not (is_active lists (first_node item))) (items model) nodes among (ap not e)) (eq-eqb (class model nodes) 0 zero_class))
+              none)
 
       by : (x : ℕ) → is_visit model x ≡ true → (b : Bool) → is_grouped model x ≡ b → (is_grouped model x || is_active lists x) ≡ true
       by x visit true e = ap (λ b. b || is_active lists x) e
@@ -168,7 +183,8 @@ module _ (model : Model) (well_formed : IsWellFormed model) (lists : List (List 
       let is = item_is model well_formed nodes of.0 in
       fails (class model nodes == 0) (λ zero.
       let free = zero_class model is.0 (ap (class model) is.1 ∙ eqb-true (class model nodes) 0 zero) in
-      let inactive = item-inactive model lists is.0 is.2 built.are_open (ap (λ n. is_active lists (first_node n)) is.1 ∙ fails_not (is_active lists (first_node nodes)) of.1) free.0 free.1 in
+      let inactive = item-inactive model lists is.0 is.2 built.are_open
+      (ap (λ n. is_active lists (first_node n)) is.1 ∙ fails_not (is_active lists (first_node nodes)) of.1) free.0 free.1 in
       let visit = held_passes (is_visit model) (item_nodes is.0) free.0 is.2.visits free.1 in
       let passes = member_passes (λ node. is_grouped model node || is_active lists node) (visits model) free.0 all (visit_in model free.0 visit) in
       clash (is_grouped model free.0 || is_active lists free.0) passes (ap₂ (λ a b. a || b) free.2 inactive)))
@@ -183,7 +199,8 @@ module _ (model : Model) (well_formed : IsWellFormed model) (lists : List (List 
   unfolding is_open
   fits = and_right (list_all (λ v. is_route_open model v (route lists v)) (vehicles lists)) (list_all (fits_group lists) model.groups) built.are_open
 
-  group_missing : (group : Group) → fits_group lists group ≡ true → (needed_by group.penalty group.max (active_in lists group) == 0) ≡ has_enough group.penalty group.max (active_in lists group)
+  group_missing : (group : Group) → fits_group lists group ≡ true
+      → (needed_by group.penalty group.max (active_in lists group) == 0) ≡ has_enough group.penalty group.max (active_in lists group)
   group_missing group h = by group.penalty
     where
       low : active_in lists group ≤ group.max
@@ -192,25 +209,31 @@ module _ (model : Model) (well_formed : IsWellFormed model) (lists : List (List 
       by : (penalty : Option ℤ) → (needed_by penalty group.max (active_in lists group) == 0) ≡ has_enough penalty group.max (active_in lists group)
       by (Some x) = refl
       by None = same_tests ((group.max - active_in lists group) == 0) (active_in lists group == group.max)
-          (λ t. let e = eqb-true (group.max - active_in lists group) 0 t in let same : active_in lists group ≡ group.max = omega (arith, e, low) in eq-eqb (active_in lists group) group.max same)
-          (λ t. let e = eqb-true (active_in lists group) group.max t in let none : group.max - active_in lists group ≡ 0 = omega (arith, e) in eq-eqb (group.max - active_in lists group) 0 none)
+          (λ t. let e = eqb-true (group.max - active_in lists group) 0 t in
+          let same : active_in lists group ≡ group.max = omega (arith, e, low) in eq-eqb (active_in lists group) group.max same)
+          (λ t. let e = eqb-true (active_in lists group) group.max t in
+          let none : group.max - active_in lists group ≡ 0 = omega (arith, e) in eq-eqb (group.max - active_in lists group) 0 none)
 
   nodes_missing : (missing_nodes model lists == 0) ≡ list_all (λ group. has_enough group.penalty group.max (active_in lists group)) model.groups
   nodes_missing = sum_by-zero (λ group. needed_by group.penalty group.max (active_in lists group)) model.groups
-      ∙ list_all-within (λ group. needed_by group.penalty group.max (active_in lists group) == 0) (λ group. has_enough group.penalty group.max (active_in lists group)) model.groups
+      ∙ list_all-within (λ group. needed_by group.penalty group.max (active_in lists group) == 0)
+      (λ group. has_enough group.penalty group.max (active_in lists group)) model.groups
       (λ g d lt. group_missing (get_or model.groups g d) (all-from_list_all (fits_group lists) model.groups fits g d lt))
 
   -- ---- both
 
   both_none : (a b : ℕ) → (a + b == 0) ≡ ((a == 0) && (b == 0))
   both_none a b = same_tests (a + b == 0) ((a == 0) && (b == 0))
-      (λ h. let e = eqb-true (a + b) 0 h in let none : a ≡ 0 = omega (arith, e) in let other : b ≡ 0 = omega (arith, e) in and_both (a == 0) (b == 0) (eq-eqb a 0 none) (eq-eqb b 0 other))
-      (λ h. let none = eqb-true a 0 (and_left (a == 0) (b == 0) h) in let other = eqb-true b 0 (and_right (a == 0) (b == 0) h) in let e : a + b ≡ 0 = omega (arith, none, other) in eq-eqb (a + b) 0 e)
+      (λ h. let e = eqb-true (a + b) 0 h in let none : a ≡ 0 = omega (arith, e) in
+      let other : b ≡ 0 = omega (arith, e) in and_both (a == 0) (b == 0) (eq-eqb a 0 none) (eq-eqb b 0 other))
+      (λ h. let none = eqb-true a 0 (and_left (a == 0) (b == 0) h) in let other = eqb-true b 0 (and_right (a == 0) (b == 0) h) in
+      let e : a + b ≡ 0 = omega (arith, none, other) in eq-eqb (a + b) 0 e)
 
   pub valid_is : is_valid model lists ≡ (lack model lists == 0)
   unfolding is_valid lack
   valid_is =
-      ap₂ (λ a b. a && (b && (has_required model lists && list_all (λ group. has_enough group.penalty group.max (active_in lists group)) model.groups))) built.are_lists built.are_open
+      ap₂ (λ a b. a && (b && (has_required model lists && list_all (λ group. has_enough group.penalty group.max (active_in lists group)) model.groups)))
+      built.are_lists built.are_open
       ∙ ap₂ (λ a b. a && b) (sym items_missing) (sym nodes_missing)
       ∙ sym (both_none (missing_items model lists) (missing_nodes model lists))
 

@@ -70,8 +70,10 @@ found-has (p ∷ ps) n pair e = by (has n p) refl e (found-has ps n pair)
 
 in_pairs : (pairs : List Pair) (pair : Pair) (x : ℕ) → In pairs pair → holds (nodes_of_pair pair) x ≡ true → holds (each pairs nodes_of_pair) x ≡ true
 in_pairs [] pair x among h = absurd among
-in_pairs (p ∷ ps) pair x (inl e) h = list_any-append (λ y. x == y) (nodes_of_pair p) (each ps nodes_of_pair) ∙ ap (λ b. b || holds (each ps nodes_of_pair) x) (subst (λ q. holds (nodes_of_pair q) x ≡ true) e h)
-in_pairs (p ∷ ps) pair x (inr among) h = list_any-append (λ y. x == y) (nodes_of_pair p) (each ps nodes_of_pair) ∙ second (holds (nodes_of_pair p) x) (holds (each ps nodes_of_pair) x) (in_pairs ps pair x among h)
+in_pairs (p ∷ ps) pair x (inl e) h = list_any-append (λ y. x == y) (nodes_of_pair p) (each ps nodes_of_pair)
+    ∙ ap (λ b. b || holds (each ps nodes_of_pair) x) (subst (λ q. holds (nodes_of_pair q) x ≡ true) e h)
+in_pairs (p ∷ ps) pair x (inr among) h = list_any-append (λ y. x == y) (nodes_of_pair p) (each ps nodes_of_pair)
+    ∙ second (holds (nodes_of_pair p) x) (holds (each ps nodes_of_pair) x) (in_pairs ps pair x among h)
   where
     second : (a b : Bool) → b ≡ true → (a || b) ≡ true
     second true b e = refl
@@ -81,7 +83,8 @@ in_pairs (p ∷ ps) pair x (inr among) h = list_any-append (λ y. x == y) (nodes
 pub pair_found : (pairs : List Pair) (pair : Pair) → is_distinct (each pairs nodes_of_pair) ≡ true → In pairs pair
     → (x : ℕ) → holds (nodes_of_pair pair) x ≡ true → find (has x) pairs ≡ Some pair
 pair_found [] pair d among x h = absurd among
-pair_found (p ∷ ps) pair d (inl e) x h = ap (λ b. cond b (Some p) (find (has x) ps)) (holds-has p x (subst (λ q. holds (nodes_of_pair q) x ≡ true) e h)) ∙ ap Some (sym e)
+pair_found (p ∷ ps) pair d (inl e) x h = ap (λ b. cond b (Some p) (find (has x) ps)) (holds-has p x (subst (λ q. holds (nodes_of_pair q) x ≡ true) e h))
+    ∙ ap Some (sym e)
 pair_found (p ∷ ps) pair d (inr among) x h =
     let absent : has x p ≡ false = fails (has x p) (λ there. clash (holds (each ps nodes_of_pair) x) (in_pairs ps pair x among h)
     (is_distinct-apart (nodes_of_pair p) (each ps nodes_of_pair) d x (has-holds p x there))) in
@@ -124,18 +127,22 @@ item_is model well_formed item among = let a = item_at model item among in by a.
     one n visit pair e true f (inr none) = absurd none
     one n visit pair e false f none = absurd none
 
-    by : (n : ℕ) → is_visit model n ≡ true → (o : Option Pair) → pair_of model n ≡ o → In (items_at o n) item → (it : Item) × (item_nodes it ≡ item) × IsItem model it
+    by : (n : ℕ) → is_visit model n ≡ true → (o : Option Pair) → pair_of model n ≡ o
+        → In (items_at o n) item → (it : Item) × (item_nodes it ≡ item) × IsItem model it
     by n visit None e (inl same) = (Visit n, sym same, IsItem-visit model well_formed n visit (Some (Visit n)) (sym (ap (λ o. items_at o n) e)))
     by n visit None e (inr none) = absurd none
     by n visit (Some pair) e among = one n visit pair e (pair.pickup == n) refl among
 
 -- each node of an item has its first node as the owner
-pub owned : (model : Model) → IsWellFormed model → (item : List ℕ) → In (items model) item → (x : ℕ) → holds item x ≡ true → owner (pair_of model x) x ≡ first_node item
+pub owned : (model : Model) → IsWellFormed model → (item : List ℕ) → In (items model) item
+    → (x : ℕ) → holds item x ≡ true → owner (pair_of model x) x ≡ first_node item
 owned model well_formed item among x h = let a = item_at model item among in by a.0 (pair_of model a.0) refl a.1.at
   where
-    one : (n : ℕ) (pair : Pair) → pair_of model n ≡ Some pair → (b : Bool) → In (cond b ((pair.pickup ∷ pair.delivery ∷ []) ∷ []) []) item → owner (pair_of model x) x ≡ first_node item
+    one : (n : ℕ) (pair : Pair) → pair_of model n ≡ Some pair → (b : Bool)
+        → In (cond b ((pair.pickup ∷ pair.delivery ∷ []) ∷ []) []) item → owner (pair_of model x) x ≡ first_node item
     one n pair e true (inl same) =
-        let found = pair_found model.pairs pair well_formed.no_node_in_pairs_twice (found-has model.pairs n pair e).0 x (subst (λ nodes. holds nodes x ≡ true) same h) in
+        let found = pair_found model.pairs pair well_formed.no_node_in_pairs_twice
+        (found-has model.pairs n pair e).0 x (subst (λ nodes. holds nodes x ≡ true) same h) in
         ap (λ o. owner o x) found ∙ sym (ap first_node same)
     one n pair e true (inr none) = absurd none
     one n pair e false none = absurd none
@@ -158,13 +165,20 @@ pub in_item : (model : Model) → IsWellFormed model → (x : ℕ) → is_visit 
 in_item model well_formed x visit = by (pair_of model x) refl
   where
     by : (o : Option Pair) → pair_of model x ≡ o → (item : List ℕ) × In (items model) item × (holds item x ≡ true)
-    by None e = (x ∷ [], to_each (λ n. items_at (pair_of model n) n) (visits model) x (x ∷ []) (visit_in model x visit) (subst (λ o. In (items_at o x) (x ∷ [])) (sym e) (inl refl)), ap (λ b. b || false) (eq-eqb x x refl))
+    by None e = (
+      x ∷ [],
+      to_each (λ n. items_at (pair_of model n) n) (visits model) x (x ∷ [])
+          (visit_in model x visit) (subst (λ o. In (items_at o x) (x ∷ [])) (sym e) (inl refl)),
+      ap (λ b. b || false) (eq-eqb x x refl),
+    )
     by (Some pair) e =
         let found = found-has model.pairs x pair e in
         let nodes = pair.pickup ∷ pair.delivery ∷ [] in
-        let first : holds (nodes_of_pair pair) pair.pickup ≡ true = ap (λ b. b || ((pair.pickup == pair.delivery) || false)) (eq-eqb pair.pickup pair.pickup refl) in
+        let first : holds (nodes_of_pair pair) pair.pickup ≡ true = ap (λ b. b || ((pair.pickup == pair.delivery) || false))
+        (eq-eqb pair.pickup pair.pickup refl) in
         let at : pair_of model pair.pickup ≡ Some pair = pair_found model.pairs pair well_formed.no_node_in_pairs_twice found.0 pair.pickup first in
         let there : In (items_at (pair_of model pair.pickup) pair.pickup) nodes =
-        subst (λ o. In (items_at o pair.pickup) nodes) (sym at) (subst (λ b. In (cond b (nodes ∷ []) []) nodes) (sym (eq-eqb pair.pickup pair.pickup refl)) (inl refl)) in
+        subst (λ o. In (items_at o pair.pickup) nodes) (sym at)
+        (subst (λ b. In (cond b (nodes ∷ []) []) nodes) (sym (eq-eqb pair.pickup pair.pickup refl)) (inl refl)) in
         let is : IsPair model pair = All-contains (IsPair model) model.pairs pair well_formed.each_pair (to_contains model.pairs pair found.0) in
         (nodes, to_each (λ n. items_at (pair_of model n) n) (visits model) pair.pickup nodes (visit_in model pair.pickup is.pickup_is_visit) there, found.1)

@@ -16,7 +16,8 @@ pub record AreRead (parts : Parts) : Type 0 where
   pub two : read (parts.arcs +ℤ parts.fixed) ≡ (parts.arcs +ℤ parts.fixed)
   pub three : read (parts.arcs +ℤ parts.fixed +ℤ parts.global) ≡ (parts.arcs +ℤ parts.fixed +ℤ parts.global)
   pub four : read (parts.arcs +ℤ parts.fixed +ℤ parts.global +ℤ parts.penalty) ≡ (parts.arcs +ℤ parts.fixed +ℤ parts.global +ℤ parts.penalty)
-  pub five : read (parts.arcs +ℤ parts.fixed +ℤ parts.global +ℤ parts.penalty +ℤ parts.soft) ≡ (parts.arcs +ℤ parts.fixed +ℤ parts.global +ℤ parts.penalty +ℤ parts.soft)
+  pub five : read (parts.arcs +ℤ parts.fixed +ℤ parts.global +ℤ parts.penalty +ℤ parts.soft)
+      ≡ (parts.arcs +ℤ parts.fixed +ℤ parts.global +ℤ parts.penalty +ℤ parts.soft)
   pub four_paid : read (parts.arcs +ℤ parts.fixed +ℤ parts.global +ℤ parts.soft) ≡ (parts.arcs +ℤ parts.fixed +ℤ parts.global +ℤ parts.soft)
 
 pub are_read : (parts : Parts) → AreInRange parts → AreRead parts
@@ -30,6 +31,7 @@ are_read parts h = record {
   two = omega (arith, ints, h.arcs_low, h.arcs_high, h.fixed_low, h.fixed_high);
   three = omega (arith, ints, h.arcs_low, h.arcs_high, h.fixed_low, h.fixed_high, h.global.low, h.global.high);
   four = omega (arith, ints, h.arcs_low, h.arcs_high, h.fixed_low, h.fixed_high, h.global.low, h.global.high, h.penalty_low, h.penalty_high);
-  five = omega (arith, ints, h.arcs_low, h.arcs_high, h.fixed_low, h.fixed_high, h.global.low, h.global.high, h.penalty_low, h.penalty_high, h.soft_low, h.soft_high);
+  five = omega
+      (arith, ints, h.arcs_low, h.arcs_high, h.fixed_low, h.fixed_high, h.global.low, h.global.high, h.penalty_low, h.penalty_high, h.soft_low, h.soft_high);
   four_paid = omega (arith, ints, h.arcs_low, h.arcs_high, h.fixed_low, h.fixed_high, h.global.low, h.global.high, h.soft_low, h.soft_high);
 }

@@ -1,5 +1,6 @@
 -- Places at which too much is added are passed over.
-use Rattle.std.proofs.Common.{◌≡◌, ◌∙◌, ◌<◌, ◌≤◌, ◌+◌, ◌-◌, ℕ, zero, suc, List, [], ◌∷◌, Bool, true, false, cond, Option, Some, None, inl, inr, refl, ap, ap₂, sym, subst, arith, length, map, ℤ, pos}
+use Rattle.std.proofs.Common.{◌≡◌, ◌∙◌, ◌<◌, ◌≤◌, ◌+◌, ◌-◌, ℕ, zero, suc, List, [], ◌∷◌, Bool, true, false, cond, Option, Some, None, inl, inr, refl, ap, ap₂}
+use Rattle.std.proofs.Common.{sym, subst, arith, length, map, ℤ, pos}
 use Rattle.std.specs.Prelude.{◌&&◌, ◌||◌, ◌==◌, ◌^◌, ◌≤ℤ◌, ◌<ℤ◌, ◌+ℤ◌, int_le, int_lt}
 use Rattle.std.proofs.lemmas.Int.{ints}
 use Rattle.std.proofs.lemmas.Bool.Decides.{eqb_tells}
@@ -102,7 +103,8 @@ module _ (model : Model) (v : ℕ) (list : List ℕ) where
   -- all placings that are passed over, each by its number
   pub passed-by : (f : ℕ → Placing) (limit : Option ℤ) (best : Option Offer) (t n : ℕ) → t + n ≤ suc (length list)
       → ((u : ℕ) → t ≤ u → u < t + n → IsAbove (bound_for best limit) (at (f u)).increase)
-      → no_more_than limit (best_of model v list best (map f (from_to (t + n) (suc (length list))))) ≡ no_more_than limit (best_of model v list best (map f (from_to t (suc (length list)))))
+      → no_more_than limit (best_of model v list best (map f (from_to (t + n) (suc (length list)))))
+      ≡ no_more_than limit (best_of model v list best (map f (from_to t (suc (length list)))))
   passed-by f limit best t zero within above =
       let e : t + 0 ≡ t = omega arith in
       ap (λ a. no_more_than limit (best_of model v list best (map f (from_to a (suc (length list)))))) e
@@ -116,35 +118,43 @@ module _ (model : Model) (v : ℕ) (list : List ℕ) where
   -- all places that are passed over
   pub passed-over : (limit : Option ℤ) (best : Option Offer) (x t n : ℕ) → t + n ≤ suc (length list)
       → ((u : ℕ) → t ≤ u → u < t + n → IsAbove (bound_for best limit) (visit_increase model v list x u))
-      → no_more_than limit (best_of model v list best (map (One x) (from_to (t + n) (suc (length list))))) ≡ no_more_than limit (best_of model v list best (map (One x) (from_to t (suc (length list)))))
+      → no_more_than limit (best_of model v list best (map (One x) (from_to (t + n) (suc (length list)))))
+      ≡ no_more_than limit (best_of model v list best (map (One x) (from_to t (suc (length list)))))
   passed-over limit best x t n within above = passed-by (One x) limit best t n within (λ u low high.
       subst (IsAbove (bound_for best limit)) (increase-is model v list (One x u) (omega (arith, within, high))) (above u low high))
 
   -- the same up to a place that is found
-  pub passed-to : (limit : Option ℤ) (best : Option Offer) (bound : Option ℤ) (x t place : ℕ) → bound ≡ bound_for best limit → t ≤ place → place ≤ suc (length list)
+  pub passed-to : (limit : Option ℤ) (best : Option Offer) (bound : Option ℤ) (x t place : ℕ)
+      → bound ≡ bound_for best limit → t ≤ place → place ≤ suc (length list)
       → ((u : ℕ) → t ≤ u → u < place → IsAbove bound (visit_increase model v list x u))
-      → no_more_than limit (best_of model v list best (map (One x) (from_to place (suc (length list))))) ≡ no_more_than limit (best_of model v list best (map (One x) (from_to t (suc (length list)))))
+      → no_more_than limit (best_of model v list best (map (One x) (from_to place (suc (length list)))))
+      ≡ no_more_than limit (best_of model v list best (map (One x) (from_to t (suc (length list)))))
   passed-to limit best bound x t place is low high above =
       let e : place ≡ t + (place - t) = omega (arith, low) in
       ap (λ a. no_more_than limit (best_of model v list best (map (One x) (from_to a (suc (length list)))))) e
-      ∙ passed-over limit best x t (place - t) (omega (arith, low, high)) (λ u from to. subst (λ b. IsAbove b (visit_increase model v list x u)) is (above u from (omega (arith, to, low))))
+      ∙ passed-over limit best x t (place - t) (omega (arith, low, high))
+      (λ u from to. subst (λ b. IsAbove b (visit_increase model v list x u)) is (above u from (omega (arith, to, low))))
 
   -- ---- a pair whose delivery is not before the place of its pickup
 
   -- what it adds is what its nodes add alone
   apart-is : (p d s u : ℕ) → s < u → u ≤ length list → visit_increase model v list p s +ℤ visit_increase model v list d u ≡ (at (Two p d s u)).increase
   apart-is p d s u after within =
-      ap (λ b. cond b (arc_cost model v (node_before model v list s) p +ℤ detour model v p d (node_after model v list s) (arc_cost_at model v list s)) (visit_increase model v list p s +ℤ visit_increase model v list d u)) (sym (not-same s u after))
+      ap (λ b. cond b (arc_cost model v (node_before model v list s) p +ℤ detour model v p d (node_after model v list s) (arc_cost_at model v list s))
+      (visit_increase model v list p s +ℤ visit_increase model v list d u)) (sym (not-same s u after))
       ∙ increase-is model v list (Two p d s u) ((omega (arith, after)), within)
 
-  pub delivery-passed-to : (best : Option Offer) (bound : Option ℤ) (p d s t place : ℕ) (alone : ℤ) → alone ≡ visit_increase model v list p s → s < t → t ≤ place → place ≤ suc (length list)
+  pub delivery-passed-to : (best : Option Offer) (bound : Option ℤ) (p d s t place : ℕ) (alone : ℤ)
+      → alone ≡ visit_increase model v list p s → s < t → t ≤ place → place ≤ suc (length list)
       → ((x : ℤ) → IsAbove bound x → IsAbove (bound_for best None) (alone +ℤ x))
       → ((u : ℕ) → t ≤ u → u < place → IsAbove bound (visit_increase model v list d u))
-      → best_of model v list best (map (Two p d s) (from_to place (suc (length list)))) ≡ best_of model v list best (map (Two p d s) (from_to t (suc (length list))))
+      → best_of model v list best (map (Two p d s) (from_to place (suc (length list))))
+      ≡ best_of model v list best (map (Two p d s) (from_to t (suc (length list))))
   delivery-passed-to best bound p d s t place alone is after low high further above =
       let e : place ≡ t + (place - t) = omega (arith, low) in
       ap (λ a. best_of model v list best (map (Two p d s) (from_to a (suc (length list))))) e
       ∙ passed-by (Two p d s) None best t (place - t) (omega (arith, low, high)) (λ u from to.
       let here : u < place = omega (arith, to, low) in
-      subst (IsAbove (bound_for best None)) (ap (λ a. a +ℤ visit_increase model v list d u) is ∙ apart-is p d s u (omega (arith, after, from)) (omega (arith, here, high)))
+      subst (IsAbove (bound_for best None))
+      (ap (λ a. a +ℤ visit_increase model v list d u) is ∙ apart-is p d s u (omega (arith, after, from)) (omega (arith, here, high)))
       (further (visit_increase model v list d u) (above u from here)))

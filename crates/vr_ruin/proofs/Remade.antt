@@ -1,11 +1,13 @@
 -- From open lists a step makes open lists: a ruin takes visits out, and a recreation puts items in that stood in no list.
-use Rattle.std.proofs.Common.{◌≡◌, ◌∙◌, ◌<◌, ◌≤◌, ◌+◌, ◌-◌, ◌⊎◌, ◌++◌, ℕ, zero, suc, List, [], ◌∷◌, Bool, true, false, cond, not, Option, Some, None, inl, inr, refl, ap, ap₂, sym, subst, arith, length}
+use Rattle.std.proofs.Common.{◌≡◌, ◌∙◌, ◌<◌, ◌≤◌, ◌+◌, ◌-◌, ◌⊎◌, ◌++◌, ℕ, zero, suc, List, [], ◌∷◌, Bool, true, false, cond, not, Option, Some, None, inl, inr}
+use Rattle.std.proofs.Common.{refl, ap, ap₂, sym, subst, arith, length}
 use Rattle.std.specs.Prelude.{◌||◌, ◌==◌, ◌/◌, min, filter, fold, find, sum_by, slice_get, option_to_list, MatchOption, ℤ}
 use Rattle.std.specs.List.{range_with_len, swap}
 use Rattle.std.proofs.lemmas.Nat.{mod_below}
 use Rattle.std.specs.List.Sorted.{IsPermutation}
 use Rattle.std.proofs.lemmas.Bool.{eqb-true, eq-eqb}
-use Rattle.std.proofs.lemmas.List.Sorted.{IsPermutation-refl, IsPermutation-sym, IsPermutation-trans, IsPermutation-cons, Contains-permutation, length_permutation, sum_by-IsPermutation}
+use Rattle.std.proofs.lemmas.List.Sorted.{IsPermutation-refl, IsPermutation-sym, IsPermutation-trans, IsPermutation-cons, Contains-permutation}
+use Rattle.std.proofs.lemmas.List.Sorted.{length_permutation, sum_by-IsPermutation}
 use Rattle.std.proofs.lemmas.List.Sums.{sum_by-append, sum_by-cons}
 use Rattle.rand_pcg.specs.Lcg.{Lcg}
 use Rattle.rand_pcg.specs.Pcg.{pcg32}
@@ -32,11 +34,13 @@ use Rattle.vr_rules.specs.Placing.{fits_beside, item_nodes, AreBuilt, IsItem}
 use Rattle.vr_rules.proofs.LocalOpenness.{is_active-added, is_open-local}
 use Rattle.vr_rules.proofs.PlacingLemmas.{AreBuilt-added, IsAdded, built-distinct}
 use Rattle.vr_strings.specs.Sorting.{put_by, sorted_by}
-use Rattle.vr_strings.specs.Strings.{Ruined, cut_at_visit, cut_in, cut_unless_passed, goes_out, gone_of, left_of_list, drawn_string, ring, ruined, step_size, vehicle_of}
+use Rattle.vr_strings.specs.Strings.{Ruined, cut_at_visit, cut_in, cut_unless_passed, goes_out, gone_of, left_of_list, drawn_string, ring, ruined, step_size}
+use Rattle.vr_strings.specs.Strings.{vehicle_of}
 use Rattle.vr_strings.specs.Turns.{class_key, far_key, shuffled, turns}
 use Rattle.vr_strings.specs.Zeros.{zeros}
 use Rattle.vr_strings.specs.declared.sizes.Ruin.{Ruin}
-use Rattle.vr_ruin.specs.Offers.{empty_vehicles, insertions_into, is_paid, keeps_open, offer, offer_at, offer_key, offers, offers_of, put_back, rank_key, recreated, with_offer}
+use Rattle.vr_ruin.specs.Offers.{empty_vehicles, insertions_into, is_paid, keeps_open, offer, offer_at, offer_key, offers, offers_of, put_back, rank_key}
+use Rattle.vr_ruin.specs.Offers.{recreated, with_offer}
 use Rattle.vr_ruin.specs.Steps.{RefineState, RefineStep, heat_at, judged_at, remade, step_from}
 use Rattle.vr_ruin.specs.Answering.{StepsStayOpen}
 use Rattle.vr_ruin.specs.Makings.{firsts, one, AreInTurn}
@@ -47,7 +51,8 @@ use Rattle.vr_ruin.proofs.Placed.{item_added, places_in}
 -- ---- ruin
 
 module _ (model : Model) where
-  string_open : (longest visit v : ℕ) (state : Ruined) → v < length state.lists → AreBuilt model state.lists → AreBuilt model (cut_in model longest visit v state).lists
+  string_open : (longest visit v : ℕ) (state : Ruined) → v < length state.lists
+      → AreBuilt model state.lists → AreBuilt model (cut_in model longest visit v state).lists
   string_open longest visit v state low built = by (is_route_open model v left) refl
     where
       list : List ℕ
@@ -57,7 +62,9 @@ module _ (model : Model) where
       left = left_of_list model list (drawn_string longest (length list) (place_of list visit) state.words).0
 
       by : (b : Bool) → is_route_open model v left ≡ b → AreBuilt model (with_route state.lists v (cond b left list))
-      by true e = built_fewer model state.lists v left built low (part_left (λ node. not (goes_out model (gone_of list (drawn_string longest (length list) (place_of list visit) state.words).0) node)) list (built-distinct model state.lists v built)) e
+      by true e = built_fewer model state.lists v left built low
+          (part_left (λ node. not (goes_out model (gone_of list (drawn_string longest (length list) (place_of list visit) state.words).0) node))
+          list (built-distinct model state.lists v built)) e
       by false e = subst (AreBuilt model) (sym (set_same state.lists v low)) built
 
   found_in : (p : ℕ → Bool) (xs : List ℕ) (x : ℕ) → find p xs ≡ Some x → In xs x
@@ -77,7 +84,8 @@ module _ (model : Model) where
   visit_open : (longest count visit : ℕ) (state : Ruined) → AreBuilt model state.lists → AreBuilt model (cut_at_visit model longest count state visit).lists
   visit_open longest count visit state built = by (length state.cut == count)
     where
-      unless : (v : ℕ) → v < length state.lists → (b : Bool) → (let next : Ruined = elim b [ true ↦ state | false ↦ cut_in model longest visit v state ] in AreBuilt model next.lists)
+      unless : (v : ℕ) → v < length state.lists → (b : Bool)
+          → (let next : Ruined = elim b [ true ↦ state | false ↦ cut_in model longest visit v state ] in AreBuilt model next.lists)
       unless v low true = built
       unless v low false = string_open longest visit v state low built
 
@@ -85,13 +93,16 @@ module _ (model : Model) where
       at None e = built
       at (Some v) e = unless v (vehicle_there state.lists visit v e) (holds state.cut v)
 
-      by : (b : Bool) → (let next : Ruined = elim b [ true ↦ state | false ↦ cut_unless_passed model longest visit state (vehicle_of state.lists visit) ] in AreBuilt model next.lists)
+      by : (b : Bool) → (let next : Ruined = elim b [ true ↦ state | false ↦ cut_unless_passed model longest visit state (vehicle_of state.lists visit) ] in
+          AreBuilt model next.lists)
       by true = built
       by false = at (vehicle_of state.lists visit) refl
 
-  visits_open : (longest count : ℕ) (visits : List ℕ) (state : Ruined) → AreBuilt model state.lists → AreBuilt model (fold (cut_at_visit model longest count) state visits).lists
+  visits_open : (longest count : ℕ) (visits : List ℕ) (state : Ruined) → AreBuilt model state.lists
+      → AreBuilt model (fold (cut_at_visit model longest count) state visits).lists
   visits_open longest count [] state built = built
-  visits_open longest count (visit ∷ rest) state built = visits_open longest count rest (cut_at_visit model longest count state visit) (visit_open longest count visit state built)
+  visits_open longest count (visit ∷ rest) state built =
+      visits_open longest count rest (cut_at_visit model longest count state visit) (visit_open longest count visit state built)
 
   pub ruined_open : (ruin : Ruin) (lists : List (List ℕ)) (words : Lcg) → AreBuilt model lists → AreBuilt model (ruined model ruin lists words).lists
   unfolding ruined
@@ -115,15 +126,21 @@ put_permutation key x (y ∷ ys) = by (is_lex_less (key y) (key x)) (put_permuta
 pub sorted_permutation : {A : Type 0} (key : A → List ℤ) (xs : List A) → IsPermutation xs (sorted_by key xs)
 sorted_permutation key [] = IsPermutation-refl []
 sorted_permutation key (x ∷ xs) =
-    IsPermutation-trans (x ∷ xs) (x ∷ sorted_by key xs) (put_by key x (sorted_by key xs)) (IsPermutation-cons x xs (sorted_by key xs) (sorted_permutation key xs)) (put_permutation key x (sorted_by key xs))
+    IsPermutation-trans (x ∷ xs) (x ∷ sorted_by key xs) (put_by key x (sorted_by key xs))
+    (IsPermutation-cons x xs (sorted_by key xs) (sorted_permutation key xs)) (put_permutation key x (sorted_by key xs))
 
 pub shuffled_permutation : {A : Type 0} (i : ℕ) (xs : List A) (words : Lcg) → i ≤ length xs - 1 → IsPermutation xs (shuffled i xs words).0
 shuffled_permutation zero xs words low = IsPermutation-refl xs
 shuffled_permutation (suc i) xs words low =
     let other = draw (suc (suc i)) words in
     let below : other.0 < suc (suc i) = mod_below (pcg32 words).0 (suc (suc i)) (omega arith) in
-    let once : IsPermutation xs (swap xs (suc i) other.0) = record { moves = (suc i, other.0) ∷ []; below = (omega (arith, low), omega (arith, low, below), tt); is = refl } in
-    IsPermutation-trans xs (swap xs (suc i) other.0) _ once (shuffled_permutation i (swap xs (suc i) other.0) other.1 (let same = length_permutation xs (swap xs (suc i) other.0) once in omega (arith, low, same)))
+    let once : IsPermutation xs (swap xs (suc i) other.0) = record {
+      moves = (suc i, other.0) ∷ [];
+      below = (omega (arith, low), omega (arith, low, below), tt);
+      is = refl;
+    } in
+    IsPermutation-trans xs (swap xs (suc i) other.0) _ once
+    (shuffled_permutation i (swap xs (suc i) other.0) other.1 (let same = length_permutation xs (swap xs (suc i) other.0) once in omega (arith, low, same)))
 
 module _ (model : Model) where
   -- items are put back in some order of those that are in no list
@@ -178,7 +195,8 @@ module _ (model : Model) (well_formed : IsWellFormed model) where
   numbers_once n a zero = omega arith
   numbers_once n a (suc k) = by (a == n) refl (sum_by-cons (λ node. one (node == n)) a (range_with_len (a + 1) k)) (numbers_once n (a + 1) k)
     where
-      by : (b : Bool) → (a == n) ≡ b → sum_by (λ node. one (node == n)) (a ∷ range_with_len (a + 1) k) ≡ one (a == n) + sum_by (λ node. one (node == n)) (range_with_len (a + 1) k)
+      by : (b : Bool) → (a == n) ≡ b
+          → sum_by (λ node. one (node == n)) (a ∷ range_with_len (a + 1) k) ≡ one (a == n) + sum_by (λ node. one (node == n)) (range_with_len (a + 1) k)
           → sum_by (λ node. one (node == n)) (range_with_len (a + 1) k) ≤ 1 → sum_by (λ node. one (node == n)) (a ∷ range_with_len (a + 1) k) ≤ 1
       by true e count later =
           let same : a ≡ n = eqb-true a n e in
@@ -191,7 +209,8 @@ module _ (model : Model) (well_formed : IsWellFormed model) where
   filter_fewer f p [] = omega arith
   filter_fewer f p (x ∷ xs) = by (p x) (filter_fewer f p xs) (sum_by-cons f x xs)
     where
-      by : (b : Bool) → sum_by f (filter p xs) ≤ sum_by f xs → sum_by f (x ∷ xs) ≡ f x + sum_by f xs → sum_by f (cond b (x ∷ filter p xs) (filter p xs)) ≤ sum_by f (x ∷ xs)
+      by : (b : Bool) → sum_by f (filter p xs) ≤ sum_by f xs → sum_by f (x ∷ xs) ≡ f x + sum_by f xs
+          → sum_by f (cond b (x ∷ filter p xs) (filter p xs)) ≤ sum_by f (x ∷ xs)
       by true rest count = let same = sum_by-cons f x (filter p xs) in omega (arith, rest, count, same)
       by false rest count = omega (arith, rest, count)
 
@@ -200,7 +219,8 @@ module _ (model : Model) (well_formed : IsWellFormed model) where
   firsts_each n (node ∷ nodes) =
       let here = at (pair_of model node) in
       let later = firsts_each n nodes in
-      let both = sum_by-append (λ item. one (first_node item == n)) (items_at (pair_of model node) node) (each nodes (λ node. items_at (pair_of model node) node)) in
+      let both = sum_by-append (λ item. one (first_node item == n))
+      (items_at (pair_of model node) node) (each nodes (λ node. items_at (pair_of model node) node)) in
       let count = sum_by-cons (λ node. one (node == n)) node nodes in
       omega (arith, here, later, both, count)
     where
@@ -237,7 +257,8 @@ module _ (model : Model) (well_formed : IsWellFormed model) where
     where
       of : (item : List ℕ) → In xs item → In (items model) item × (not (is_active lists (first_node item)) ≡ true)
       of item there = of_filter (λ item. not (is_active lists (first_node item))) (items model) item
-          (of_contains (unplaced model lists) item (Contains-permutation xs (unplaced model lists) item (IsPermutation-sym (unplaced model lists) xs moved) (to_contains xs item there)))
+          (of_contains (unplaced model lists) item
+          (Contains-permutation xs (unplaced model lists) item (IsPermutation-sym (unplaced model lists) xs moved) (to_contains xs item there)))
 
   -- ---- an item that is put into a list
 
@@ -249,20 +270,30 @@ module _ (model : Model) (well_formed : IsWellFormed model) where
     pub opens : is_route_open model insertion.vehicle (inserted_in (route lists insertion.vehicle) item insertion.places) ≡ true
 
   least_in : {A : Type 0} (key : A → List ℤ) (xs : List A) (x : A) → least_by key xs ≡ Some x → In xs x
-  least_in key xs x e = let h : IsFirstLeast key xs x = subst (λ o. MatchOption o (xs ≡ []) (IsFirstLeast key xs)) e (least_first key xs) in of_contains xs x (h.place, h.in_list, h.stands_there x)
+  least_in key xs x e =
+      let h : IsFirstLeast key xs x = subst (λ o. MatchOption o (xs ≡ []) (IsFirstLeast key xs)) e (least_first key xs) in
+      of_contains xs x (h.place, h.in_list, h.stands_there x)
 
-  pub offer_is : (lists : List (List ℕ)) (item : List ℕ) (v : ℕ) (insertion : Insertion) → v < length lists → offer model lists item v ≡ Some insertion → IsOffered lists item insertion
+  pub offer_is : (lists : List (List ℕ)) (item : List ℕ) (v : ℕ) (insertion : Insertion)
+      → v < length lists → offer model lists item v ≡ Some insertion → IsOffered lists item insertion
   offer_is lists item v insertion low e =
-      let of = of_filter (keeps_open model lists) (insertions_into lists item v) insertion (least_in (offer_key model lists) (filter (keeps_open model lists) (insertions_into lists item v)) insertion e) in
-      from_map (λ places. record { item = item; vehicle = v; places = places }) (places_for item (route lists v)) insertion of.0 (λ places there same. built_of places there same of.1)
+      let of = of_filter (keeps_open model lists) (insertions_into lists item v) insertion
+      (least_in (offer_key model lists) (filter (keeps_open model lists) (insertions_into lists item v)) insertion e) in
+      from_map (λ places. record { item = item; vehicle = v; places = places })
+      (places_for item (route lists v)) insertion of.0 (λ places there same. built_of places there same of.1)
     where
-      built_of : (places : List ℕ) → In (places_for item (route lists v)) places → insertion ≡ record { item = item; vehicle = v; places = places } → keeps_open model lists insertion ≡ true → IsOffered lists item insertion
-      built_of places there same opens = subst (IsOffered lists item) (sym same) (record { vehicle = low; item_is = refl; places = there; opens = subst (λ i. keeps_open model lists i ≡ true) same opens })
+      built_of : (places : List ℕ) → In (places_for item (route lists v)) places → insertion ≡ record { item = item; vehicle = v; places = places }
+          → keeps_open model lists insertion ≡ true → IsOffered lists item insertion
+      built_of places there same opens = subst (IsOffered lists item) (sym same)
+          (record { vehicle = low; item_is = refl; places = there; opens = subst (λ i. keeps_open model lists i ≡ true) same opens })
 
-  asked_is : (lists : List (List ℕ)) (item asked : List ℕ) (insertion : Insertion) → ((v : ℕ) → In asked v → v < length lists) → In (offers_of model lists item asked) insertion → IsOffered lists item insertion
-  asked_is lists item asked insertion known among = from_each (λ v. option_to_list (offer model lists item v)) asked insertion among (λ v there at. one_of (offer model lists item v) v refl (known v there) at)
+  asked_is : (lists : List (List ℕ)) (item asked : List ℕ) (insertion : Insertion) → ((v : ℕ) → In asked v → v < length lists)
+      → In (offers_of model lists item asked) insertion → IsOffered lists item insertion
+  asked_is lists item asked insertion known among = from_each (λ v. option_to_list (offer model lists item v))
+      asked insertion among (λ v there at. one_of (offer model lists item v) v refl (known v there) at)
     where
-      one_of : (o : Option Insertion) (v : ℕ) → offer model lists item v ≡ o → v < length lists → In (option_to_list o) insertion → IsOffered lists item insertion
+      one_of : (o : Option Insertion) (v : ℕ) → offer model lists item v ≡ o
+          → v < length lists → In (option_to_list o) insertion → IsOffered lists item insertion
       one_of None v e low at = absurd at
       one_of (Some x) v e low (inl same) = offer_is lists item v insertion low (e ∙ ap Some (sym same))
       one_of (Some x) v e low (inr none) = absurd none
@@ -275,13 +306,15 @@ module _ (model : Model) (well_formed : IsWellFormed model) where
   vehicle_known : (lists : List (List ℕ)) (p : ℕ → Bool) (v : ℕ) → In (filter p (vehicles lists)) v → v < length lists
   vehicle_known lists p v there = of_below (length lists) v (of_filter p (vehicles lists) v there).0
 
-  offers_are : (wide : Bool) (lists : List (List ℕ)) (item : List ℕ) (insertion : Insertion) → In (offers model wide lists item) insertion → IsOffered lists item insertion
+  offers_are : (wide : Bool) (lists : List (List ℕ)) (item : List ℕ) (insertion : Insertion)
+      → In (offers model wide lists item) insertion → IsOffered lists item insertion
   offers_are wide lists item insertion among = by (wide || is_empty (offers_of model lists item (used_vehicles lists))) among
     where
       used : In (offers_of model lists item (used_vehicles lists)) insertion → IsOffered lists item insertion
       used there = asked_is lists item (used_vehicles lists) insertion (vehicle_known lists (λ v. not (is_empty (route lists v)))) there
 
-      by : (b : Bool) → In (cond b (offers_of model lists item (used_vehicles lists) ++ offers_of model lists item (empty_vehicles lists)) (offers_of model lists item (used_vehicles lists))) insertion → IsOffered lists item insertion
+      by : (b : Bool) → In (cond b (offers_of model lists item (used_vehicles lists) ++ offers_of model lists item (empty_vehicles lists))
+          (offers_of model lists item (used_vehicles lists))) insertion → IsOffered lists item insertion
       by false there = used there
       by true there = elim (in_both (offers_of model lists item (used_vehicles lists)) (offers_of model lists item (empty_vehicles lists)) insertion there) [
         | inl h ↦ used h
@@ -296,11 +329,14 @@ module _ (model : Model) (well_formed : IsWellFormed model) where
       same e = cc
   got_in (y ∷ ys) (suc k) x e = inr (got_in ys k x e)
 
-  pub chosen_is : (wide : Bool) (lists : List (List ℕ)) (item : List ℕ) (r : ℕ) (insertion : Insertion) → offer_at model wide lists item r ≡ Some insertion → IsOffered lists item insertion
+  pub chosen_is : (wide : Bool) (lists : List (List ℕ)) (item : List ℕ) (r : ℕ) (insertion : Insertion)
+      → offer_at model wide lists item r ≡ Some insertion → IsOffered lists item insertion
   chosen_is wide lists item r insertion e =
       let all = offers model wide lists item in
       let in_order = sorted_by (rank_key model lists) all in
-      offers_are wide lists item insertion (of_contains all insertion (Contains-permutation in_order all insertion (IsPermutation-sym all in_order (sorted_permutation (rank_key model lists) all))
+      offers_are wide lists item insertion
+      (of_contains all insertion
+      (Contains-permutation in_order all insertion (IsPermutation-sym all in_order (sorted_permutation (rank_key model lists) all))
       (to_contains in_order insertion (got_in in_order (min r (length in_order - 1)) insertion e))))
 
   -- the lists of an insertion that may be made, and the items that are still to be put back
@@ -318,8 +354,12 @@ module _ (model : Model) (well_formed : IsWellFormed model) where
 
   not_there : (n : ℕ) (xs : List (List ℕ)) → firsts n xs ≡ 0 → (item : List ℕ) → In xs item → (first_node item == n) ≡ false
   not_there n [] none item there = absurd there
-  not_there n (x ∷ xs) none item (inl same) = let count = sum_by-cons (λ item. one (first_node item == n)) x xs in ap (λ i. first_node i == n) same ∙ zero_one (first_node x == n) (omega (arith, count, none))
-  not_there n (x ∷ xs) none item (inr later) = let count = sum_by-cons (λ item. one (first_node item == n)) x xs in not_there n xs (omega (arith, count, none)) item later
+  not_there n (x ∷ xs) none item (inl same) =
+      let count = sum_by-cons (λ item. one (first_node item == n)) x xs in
+      ap (λ i. first_node i == n) same ∙ zero_one (first_node x == n) (omega (arith, count, none))
+  not_there n (x ∷ xs) none item (inr later) =
+      let count = sum_by-cons (λ item. one (first_node item == n)) x xs in
+      not_there n xs (omega (arith, count, none)) item later
 
   tail_left : (lists : List (List ℕ)) (item : List ℕ) (rest : List (List ℕ)) → AreToPlace model lists (item ∷ rest) → AreToPlace model lists rest
   tail_left lists item rest left = record {
@@ -329,18 +369,25 @@ module _ (model : Model) (well_formed : IsWellFormed model) where
   }
 
   -- an insertion that is offered for an item in no list, and for which the groups have room, leaves open lists
-  pub offered_open : (lists : List (List ℕ)) (it : Item) (insertion : Insertion) → AreBuilt model lists → IsItem model it → is_active lists (first_node (item_nodes it)) ≡ false → fits_beside model lists (item_nodes it) ≡ true
+  pub offered_open : (lists : List (List ℕ)) (it : Item) (insertion : Insertion) → AreBuilt model lists → IsItem model it
+      → is_active lists (first_node (item_nodes it)) ≡ false → fits_beside model lists (item_nodes it) ≡ true
       → IsOffered lists (item_nodes it) insertion → AreBuilt model (inserted lists insertion)
   offered_open lists it insertion built valid inactive fits offered =
       let v = insertion.vehicle in
       let list = inserted_in (route lists v) (item_nodes it) insertion.places in
-      let added : IsAdded model lists v (item_nodes it) list = item_added model lists v it insertion.places built offered.vehicle valid inactive (places_in it (route lists v) insertion.places offered.places) in
-      let opens : is_open model (with_route lists v list) ≡ true = is_open-local model lists v list (item_nodes it) built.are_open offered.vehicle added.nodes_are ∙ and_both (is_route_open model v list) (fits_beside model lists (item_nodes it)) offered.opens fits in
-      subst (λ item. AreBuilt model (with_route lists v (inserted_in (route lists v) item insertion.places))) (sym offered.item_is) (AreBuilt-added model lists v (item_nodes it) list built added opens)
+      let added : IsAdded model lists v (item_nodes it) list = item_added model lists v it insertion.places
+      built offered.vehicle valid inactive (places_in it (route lists v) insertion.places offered.places) in
+      let opens : is_open model (with_route lists v list) ≡ true =
+      is_open-local model lists v list (item_nodes it) built.are_open offered.vehicle added.nodes_are
+      ∙ and_both (is_route_open model v list) (fits_beside model lists (item_nodes it)) offered.opens fits in
+      subst (λ item. AreBuilt model (with_route lists v (inserted_in (route lists v) item insertion.places)))
+      (sym offered.item_is) (AreBuilt-added model lists v (item_nodes it) list built added opens)
 
-  insertion_open : (lists : List (List ℕ)) (item : List ℕ) (rest : List (List ℕ)) (insertion : Insertion) → IsStillOpen lists (item ∷ rest) → fits_beside model lists item ≡ true → IsOffered lists item insertion
+  insertion_open : (lists : List (List ℕ)) (item : List ℕ) (rest : List (List ℕ)) (insertion : Insertion)
+      → IsStillOpen lists (item ∷ rest) → fits_beside model lists item ≡ true → IsOffered lists item insertion
       → IsStillOpen (inserted lists insertion) rest
-  insertion_open lists item rest insertion before fits offered = subst (λ i. IsStillOpen (inserted_by i) rest) (sym offered.item_is) (made (item_is model well_formed item (before.left.among item (inl refl))))
+  insertion_open lists item rest insertion before fits offered =
+      subst (λ i. IsStillOpen (inserted_by i) rest) (sym offered.item_is) (made (item_is model well_formed item (before.left.among item (inl refl))))
     where
       inserted_by : List ℕ → List (List ℕ)
       inserted_by i = with_route lists insertion.vehicle (inserted_in (route lists insertion.vehicle) i insertion.places)
@@ -349,16 +396,21 @@ module _ (model : Model) (well_formed : IsWellFormed model) where
       made (it, is, valid) =
           let v = insertion.vehicle in
           let list = inserted_in (route lists v) item insertion.places in
-          let places : In (places_for (item_nodes it) (route lists v)) insertion.places = subst (λ nodes. In (places_for nodes (route lists v)) insertion.places) (sym is) offered.places in
-          let inactive : is_active lists (first_node (item_nodes it)) ≡ false = ap (λ nodes. is_active lists (first_node nodes)) is ∙ before.left.inactive item (inl refl) in
+          let places : In (places_for (item_nodes it) (route lists v)) insertion.places =
+          subst (λ nodes. In (places_for nodes (route lists v)) insertion.places) (sym is) offered.places in
+          let inactive : is_active lists (first_node (item_nodes it)) ≡ false = ap (λ nodes. is_active lists (first_node nodes)) is
+          ∙ before.left.inactive item (inl refl) in
           let added : IsAdded model lists v item list = subst (λ nodes. IsAdded model lists v nodes (inserted_in (route lists v) nodes insertion.places)) is
           (item_added model lists v it insertion.places before.built offered.vehicle valid inactive (places_in it (route lists v) insertion.places places)) in
-          let opens : is_open model (with_route lists v list) ≡ true = is_open-local model lists v list item before.built.are_open offered.vehicle added.nodes_are ∙ and_both (is_route_open model v list) (fits_beside model lists item) offered.opens fits in
+          let opens : is_open model (with_route lists v list) ≡ true =
+          is_open-local model lists v list item before.built.are_open offered.vehicle added.nodes_are
+          ∙ and_both (is_route_open model v list) (fits_beside model lists item) offered.opens fits in
           record {
             built = AreBuilt-added model lists v item list before.built added opens;
             left = record {
               among = λ y there. before.left.among y (inr there);
-              inactive = λ y there. is_active-added lists v list item (first_node y) offered.vehicle (added.nodes_are (first_node y)) ∙ ap₂ (λ a b. a || b) (apart_from y there) (before.left.inactive y (inr there));
+              inactive = λ y there. is_active-added lists v list item (first_node y) offered.vehicle (added.nodes_are (first_node y))
+                  ∙ ap₂ (λ a b. a || b) (apart_from y there) (before.left.inactive y (inr there));
               once = (tail_left lists item rest before.left).once;
             };
           }
@@ -367,22 +419,26 @@ module _ (model : Model) (well_formed : IsWellFormed model) where
           apart_from y there = fails (holds item (first_node y)) (λ held.
               let here = owned model well_formed item (before.left.among item (inl refl)) (first_node y) held in
               let other = item_is model well_formed y (before.left.among y (inr there)) in
-              let own = owned model well_formed y (before.left.among y (inr there)) (first_node y) (subst (λ nodes. holds nodes (first_node nodes) ≡ true) other.1 (is_first other.0)) in
+              let own = owned model well_formed y (before.left.among y (inr there)) (first_node y)
+              (subst (λ nodes. holds nodes (first_node nodes) ≡ true) other.1 (is_first other.0)) in
               let same : first_node y ≡ first_node item = sym own ∙ here in
               let all = before.left.once (first_node item) in
               let count = sum_by-cons (λ i. one (first_node i == first_node item)) item rest in
               let mine : one (first_node item == first_node item) ≡ 1 = ap one (eq-eqb (first_node item) (first_node item) refl) in
-              clash (first_node y == first_node item) (eq-eqb (first_node y) (first_node item) same) (not_there (first_node item) rest (omega (arith, all, count, mine)) y there))
+              clash (first_node y == first_node item) (eq-eqb (first_node y) (first_node item) same)
+              (not_there (first_node item) rest (omega (arith, all, count, mine)) y there))
 
   -- ---- items in their turns
 
-  pub put_back_open : (wide : Bool) (lists : List (List ℕ)) (words : Lcg) (item : List ℕ) (rest : List (List ℕ)) → IsStillOpen lists (item ∷ rest) → IsStillOpen (put_back model wide (lists, words) item).0 rest
+  pub put_back_open : (wide : Bool) (lists : List (List ℕ)) (words : Lcg) (item : List ℕ) (rest : List (List ℕ))
+      → IsStillOpen lists (item ∷ rest) → IsStillOpen (put_back model wide (lists, words) item).0 rest
   put_back_open wide lists words item rest before = by (fits_beside model lists item) refl
     where
       stays : IsStillOpen lists rest
       stays = record { built = before.built; left = tail_left lists item rest before.left }
 
-      by_offer : fits_beside model lists item ≡ true → (o : Option Insertion) → offer_at model wide lists item ((zeros words).0 / 7) ≡ o → IsStillOpen (with_offer model lists o) rest
+      by_offer : fits_beside model lists item ≡ true → (o : Option Insertion)
+          → offer_at model wide lists item ((zeros words).0 / 7) ≡ o → IsStillOpen (with_offer model lists o) rest
       by_offer fits None e = stays
       by_offer fits (Some insertion) e = paid (is_paid model lists insertion)
         where
@@ -391,7 +447,10 @@ module _ (model : Model) (well_formed : IsWellFormed model) where
           paid false = stays
 
       by : (b : Bool) → fits_beside model lists item ≡ b
-          → (let next : List (List ℕ) × Lcg = elim b [ true ↦ let word = zeros words in (with_offer model lists (offer_at model wide lists item (word.0 / 7)), word.1) | false ↦ (lists, words) ] in IsStillOpen next.0 rest)
+          → (let next : List (List ℕ) × Lcg = elim b [
+            | true ↦ let word = zeros words in (with_offer model lists (offer_at model wide lists item (word.0 / 7)), word.1)
+            | false ↦ (lists, words)
+          ] in IsStillOpen next.0 rest)
       by true e = by_offer e (offer_at model wide lists item ((zeros words).0 / 7)) refl
       by false e = stays
 
@@ -412,7 +471,8 @@ module _ (model : Model) (well_formed : IsWellFormed model) where
       let rest = ruined model ruin lists words in
       let order = turns model rest.lists rest.words in
       let wide = draw 8 order.1 in
-      recreated_open (wide.0 == 0) order.0 rest.lists wide.1 (record { built = ruined_open model ruin lists words built; left = to_place rest.lists order.0 (turns_permutation model rest.lists rest.words) })
+      recreated_open (wide.0 == 0) order.0 rest.lists wide.1
+      (record { built = ruined_open model ruin lists words built; left = to_place rest.lists order.0 (turns_permutation model rest.lists rest.words) })
 
   step_open : (ruin : Ruin) (tries : ℕ) (state : RefineState) → AreBuilt model state.search.lists → AreBuilt model (step_from model ruin tries state).lists
   unfolding step_from

@@ -15,17 +15,21 @@ use Rattle.vr_rules.proofs.PlacingLemmas.{count_by-within, list_all-within}
 -- a node that is in some group is none of nodes that are in none
 apart-from : (model : Model) (x : ℕ) (nodes : List ℕ) → is_grouped model x ≡ true → list_any (is_grouped model) nodes ≡ false → holds nodes x ≡ false
 apart-from model x [] grouped none = refl
-apart-from model x (y ∷ ys) grouped none = by (x == y) refl (apart-from model x ys grouped (or-false_right (is_grouped model y) (list_any (is_grouped model) ys) none))
+apart-from model x (y ∷ ys) grouped none =
+    by (x == y) refl (apart-from model x ys grouped (or-false_right (is_grouped model y) (list_any (is_grouped model) ys) none))
   where
     by : (b : Bool) → (x == y) ≡ b → holds ys x ≡ false → ((x == y) || holds ys x) ≡ false
-    by true e rest = absurd (clash (is_grouped model y) (ap (is_grouped model) (sym (eqb-true x y e)) ∙ grouped) (or-false_left (is_grouped model y) (list_any (is_grouped model) ys) none))
+    by true e rest = absurd (clash (is_grouped model y) (ap (is_grouped model) (sym (eqb-true x y e)) ∙ grouped)
+        (or-false_left (is_grouped model y) (list_any (is_grouped model) ys) none))
     by false e rest = ap (λ b. b || holds ys x) e ∙ rest
 
 groups-fit : (model : Model) (lists : List (List ℕ)) → is_open model lists ≡ true → list_all (fits_group lists) model.groups ≡ true
 unfolding is_open
-groups-fit model lists opens = and_right (list_all (λ v. is_route_open model v (route lists v)) (vehicles lists)) (list_all (fits_group lists) model.groups) opens
+groups-fit model lists opens =
+    and_right (list_all (λ v. is_route_open model v (route lists v)) (vehicles lists)) (list_all (fits_group lists) model.groups) opens
 
-pub ungrouped-fits : (model : Model) (lists : List (List ℕ)) (nodes : List ℕ) → AreBuilt model lists → list_any (is_grouped model) nodes ≡ false → true ≡ fits_beside model lists nodes
+pub ungrouped-fits : (model : Model) (lists : List (List ℕ)) (nodes : List ℕ) → AreBuilt model lists
+    → list_any (is_grouped model) nodes ≡ false → true ≡ fits_beside model lists nodes
 ungrouped-fits model lists nodes built none = sym (
     list_all-within (fits_group (nodes ∷ lists)) (fits_group lists) model.groups (λ g d low.
     let group = get_or model.groups g d in

@@ -16,7 +16,8 @@ use Rattle.vr_ruin.specs.Answering.{CoolingGoesOn, HeatIsBounded, RefiningStops,
 -- ---- when it stops
 
 module _ (model : Model) (ruin : Ruin) (limit : Limit) where
-  stops_in : (state : RefineState) → state.search.used ≤ limit.tries → ((state.search.found == limit.solutions) ≡ true) ⊎ (state.search.used ≡ limit.tries) → StopsWithin limit (stopped limit state).outcome.report
+  stops_in : (state : RefineState) → state.search.used ≤ limit.tries
+      → ((state.search.found == limit.solutions) ≡ true) ⊎ (state.search.used ≡ limit.tries) → StopsWithin limit (stopped limit state).outcome.report
   stops_in state low why = by (state.search.found == limit.solutions) refl why
     where
       by : (b : Bool) → (state.search.found == limit.solutions) ≡ b → ((state.search.found == limit.solutions) ≡ true) ⊎ (state.search.used ≡ limit.tries)
@@ -25,7 +26,8 @@ module _ (model : Model) (ruin : Ruin) (limit : Limit) where
       by false e (inl satisfied) = absurd (clash (state.search.found == limit.solutions) satisfied e)
       by false e (inr all) = record { few = low; why = inr (refl, all) }
 
-  stops_from : (left : ℕ) (state : RefineState) → state.search.used + left ≡ limit.tries → StopsWithin limit (refined_from model ruin limit left state).outcome.report
+  stops_from : (left : ℕ) (state : RefineState) → state.search.used + left ≡ limit.tries
+      → StopsWithin limit (refined_from model ruin limit left state).outcome.report
   unfolding refined_from
   stops_from zero state all = stops_in state (omega (arith, all)) (inr (omega (arith, all)))
   stops_from (suc left) state all = by (is_satisfied limit state) refl (stops_from left (after_step model state step))
@@ -34,14 +36,22 @@ module _ (model : Model) (ruin : Ruin) (limit : Limit) where
       step = step_from model ruin limit.tries state
 
       used_next : (b : Bool) → (let after : RefineState = elim b [
-        | true ↦ record { search = with_accepted model state.search step.lists; first = cond (lack model state.first == 0) state.first step.lists; words = step.words }
+        | true ↦ record {
+          search = with_accepted model state.search step.lists;
+          first = cond (lack model state.first == 0) state.first step.lists;
+          words = step.words;
+        }
         | false ↦ record { search = tried state.search 1; first = state.first; words = step.words }
       ] in after.search.used ≡ suc state.search.used)
       used_next true = refl
       used_next false = omega arith
 
-      by : (b : Bool) → is_satisfied limit state ≡ b → ((after_step model state step).search.used + left ≡ limit.tries → StopsWithin limit (refined_from model ruin limit left (after_step model state step)).outcome.report)
-          → (let end_of : RefineEnd = elim b [ true ↦ stopped limit state | false ↦ with_events (step_events model state step) (refined_from model ruin limit left (after_step model state step)) ] in StopsWithin limit end_of.outcome.report)
+      by : (b : Bool) → is_satisfied limit state ≡ b → ((after_step model state step).search.used + left ≡ limit.tries
+          → StopsWithin limit (refined_from model ruin limit left (after_step model state step)).outcome.report)
+          → (let end_of : RefineEnd = elim b [
+            | true ↦ stopped limit state
+            | false ↦ with_events (step_events model state step) (refined_from model ruin limit left (after_step model state step))
+          ] in StopsWithin limit end_of.outcome.report)
       by true e again = stops_in state (omega (arith, all)) (inl e)
       by false e again = let used = used_next step.is_accepted in again (omega (arith, all, used))
 

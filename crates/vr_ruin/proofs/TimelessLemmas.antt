@@ -1,5 +1,6 @@
 -- Where no schedules cost anything, an insertion makes the cost more by arcs and a fixed cost alone.
-use Rattle.std.proofs.Common.{◌≡◌, ◌∙◌, ℕ, zero, suc, ◌+◌, ◌*◌, ◌<◌, ◌++◌, Bool, true, false, cond, List, [], ◌∷◌, length, refl, sym, ap, subst, arith, length-set}
+use Rattle.std.proofs.Common.{◌≡◌, ◌∙◌, ℕ, zero, suc, ◌+◌, ◌*◌, ◌<◌, ◌++◌, Bool, true, false, cond, List, [], ◌∷◌, length, refl, sym, ap, subst, arith}
+use Rattle.std.proofs.Common.{length-set}
 use Rattle.std.specs.Prelude.{ℤ, pos, neg_ℤ, ◌^◌, ◌+ℤ◌, ◌-ℤ◌, ◌*ℤ◌, ◌≤ℤ◌, All, IfSome, Option, Some, None}
 use Rattle.std.specs.List.{list_all}
 use Rattle.std.specs.Ordering.{int_eq}
@@ -12,7 +13,8 @@ use Rattle.vr_model.specs.tables.Numbers.{below, is_lex_less, number_at, total_b
 use Rattle.vr_model.specs.tables.Tables.{dimension_at, no_vehicle, vehicle_at}
 use Rattle.vr_model.specs.tables.WellFormed.{IsWellFormed}
 use Rattle.vr_model.specs.routes.Routes.{arcs_from, cost_of_arc, is_empty, route, route_cost, used_vehicles}
-use Rattle.vr_model.specs.routes.Costs.{Assignment, arcs_part, assigned, cost, end_at, fixed_part, global_part, global_span, over_plans, penalty_part, plan_at, soft_costs, soft_part, span_part, start_at}
+use Rattle.vr_model.specs.routes.Costs.{Assignment, arcs_part, assigned, cost, end_at, fixed_part, global_part, global_span, over_plans, penalty_part, plan_at}
+use Rattle.vr_model.specs.routes.Costs.{soft_costs, soft_part, span_part, start_at}
 use Rattle.vr_model.specs.routes.Rules.{is_route_open}
 use Rattle.vr_model.specs.first.Choosing.{better}
 use Rattle.vr_model.specs.first.CheapestInsertion.{inserted, inserted_in}
@@ -55,11 +57,13 @@ module _ (model : Model) (timeless : is_timeless model ≡ true) where
   free d low = each_below (λ d. costs_no_time (dimension_at model d)) (length model.dimensions) d timeless low
 
   no_coefficient : (d : ℕ) → d < length model.dimensions → (dimension_at model d).global_span_cost ≡ pos 0
-  no_coefficient d low = (Decides-int_eq (dimension_at model d).global_span_cost (pos 0)).0 (and_left (int_eq (dimension_at model d).global_span_cost (pos 0)) (is_free (dimension_at model d)) (free d low))
+  no_coefficient d low = (Decides-int_eq (dimension_at model d).global_span_cost (pos 0)).0
+      (and_left (int_eq (dimension_at model d).global_span_cost (pos 0)) (is_free (dimension_at model d)) (free d low))
 
   pays : (d : ℕ) → d < length model.dimensions → (v : ℕ) (list : List ℕ) → PaysNothing (dimension_at model d) v list
   pays d low v list = pays_nothing_where (dimension_at model d) v list
-      (free_pays (dimension_at model d) (and_right (int_eq (dimension_at model d).global_span_cost (pos 0)) (is_free (dimension_at model d)) (free d low)) v list)
+      (free_pays (dimension_at model d)
+      (and_right (int_eq (dimension_at model d).global_span_cost (pos 0)) (is_free (dimension_at model d)) (free d low)) v list)
 
   global-nothing : (lists : List (List ℕ)) → global_part model (assigned model lists) ≡ pos 0
   global-nothing lists = sum_nothing (λ d. (dimension_at model d).global_span_cost *ℤ global_span (assigned model lists) d) 0 (length model.dimensions)
@@ -70,18 +74,22 @@ module _ (model : Model) (timeless : is_timeless model ≡ true) where
       (λ v. sum_nothing (λ d. f d v) 0 (length model.dimensions) (λ d low high. h d v (omega (arith, high)))) (used_vehicles assignment.lists)
 
   soft-nothing : (lists : List (List ℕ)) → soft_part model (assigned model lists) ≡ pos 0
-  soft-nothing lists = over-nothing (assigned model lists) (soft_costs model (assigned model lists)) (λ d v low. (pays d low v (route lists v)).soft (plan_at (assigned model lists) d v).cumuls)
+  soft-nothing lists = over-nothing (assigned model lists) (soft_costs model (assigned model lists))
+      (λ d v low. (pays d low v (route lists v)).soft (plan_at (assigned model lists) d v).cumuls)
 
   span-nothing : (lists : List (List ℕ)) → span_part model (assigned model lists) ≡ pos 0
   span-nothing lists = over-nothing (assigned model lists)
       (λ d v. number_at (dimension_at model d).span_costs v *ℤ (end_at (assigned model lists) d v -ℤ start_at (assigned model lists) d v))
-      (λ d v low. times-none (number_at (dimension_at model d).span_costs v) (end_at (assigned model lists) d v -ℤ start_at (assigned model lists) d v) (pays d low v (route lists v)).span)
+      (λ d v low. times-none (number_at (dimension_at model d).span_costs v)
+      (end_at (assigned model lists) d v -ℤ start_at (assigned model lists) d v) (pays d low v (route lists v)).span)
 
   paid-is : (lists : List (List ℕ)) → paid_cost model lists ≡ arcs_part model lists +ℤ fixed_part model lists
   unfolding cost
   paid-is lists =
       let plan = assigned model lists in
-      let sum : cost model lists ≡ arcs_part model lists +ℤ (fixed_part model lists +ℤ (global_part model plan +ℤ (penalty_part model lists +ℤ (soft_part model plan +ℤ (span_part model plan +ℤ pos 0))))) = refl in
+      let sum : cost model lists ≡ arcs_part model lists
+      +ℤ (fixed_part model lists +ℤ (global_part model plan +ℤ (penalty_part model lists +ℤ (soft_part model plan +ℤ (span_part model plan +ℤ pos 0))))) =
+      refl in
       let a = global-nothing lists in
       let b = soft-nothing lists in
       let c = span-nothing lists in
@@ -104,7 +112,8 @@ pub some-placed : (list : List ℕ) (placing : Placing) → is_empty (placed lis
 some-placed list (One n t) = some-in _ _ n
 some-placed list (Two p d s t) = some-in _ _ p
 
-module _ (model : Model) (timeless : is_timeless model ≡ true) (lists : List (List ℕ)) (offer : Offer) (low : offer.vehicle < length lists) (adds : AddsToArcs model lists offer) where
+module _ (model : Model) (timeless : is_timeless model ≡ true) (lists : List (List ℕ))
+    (offer : Offer) (low : offer.vehicle < length lists) (adds : AddsToArcs model lists offer) where
   abbrev here : List ℕ
   here = route lists offer.vehicle
 
@@ -161,7 +170,8 @@ module _ (model : Model) (v : ℕ) (list : List ℕ) where
 
   best-of-place : (placings : List Placing) (best : Option Offer) → IfSome best IsOfPlace → IfSome (best_of model v list best placings) IsOfPlace
   best-of-place [] best is = is
-  best-of-place (p ∷ ps) best is = best-of-place ps (weigh model list best (offer_for model v list p)) (weighed (is_route_open model v (placed list p)) best (offer_for model v list p) is refl)
+  best-of-place (p ∷ ps) best is = best-of-place ps (weigh model list best (offer_for model v list p))
+      (weighed (is_route_open model v (placed list p)) best (offer_for model v list p) is refl)
 
 -- ---- the arc costs of a list are bounded
 
@@ -186,7 +196,8 @@ module _ (model : Model) (well : IsWellFormed model) (v : ℕ) (known : v < leng
   route-up_to (x ∷ xs) each =
       let vehicle = well.each_vehicle v no_vehicle known in
       subst (λ n. IsUpTo (n * 1099511627776) (route_cost model v (x ∷ xs))) (length-append (x ∷ xs) ((vehicle_at model v).end ∷ []))
-      (path-up_to (vehicle_at model v).start ((x ∷ xs) ++ (vehicle_at model v).end ∷ []) vehicle.start_in_range (all-push (λ node. node < model.nodes) (x ∷ xs) (vehicle_at model v).end each vehicle.end_in_range))
+      (path-up_to (vehicle_at model v).start ((x ∷ xs) ++ (vehicle_at model v).end ∷ []) vehicle.start_in_range
+      (all-push (λ node. node < model.nodes) (x ∷ xs) (vehicle_at model v).end each vehicle.end_in_range))
 
 module _ (model : Model) (well : IsWellFormed model) (lists : List (List ℕ)) (v : ℕ) (built : AreBuilt model lists) (low : v < length lists) where
   built-up_to : IsUpTo (1001 * 1099511627776) (route_cost model v (route lists v))
@@ -201,29 +212,35 @@ module _ (model : Model) (well : IsWellFormed model) (lists : List (List ℕ)) (
 
 -- ---- an offer that may be made
 
-module _ (model : Model) (well : IsWellFormed model) (lists : List (List ℕ)) (built : AreBuilt model lists) (offer : Offer) (may : MayBeMade model lists offer) (adds : AddsToArcs model lists offer) where
+module _ (model : Model) (well : IsWellFormed model) (lists : List (List ℕ)) (built : AreBuilt model lists)
+    (offer : Offer) (may : MayBeMade model lists offer) (adds : AddsToArcs model lists offer) where
   pub increase-in_range : (neg_ℤ (pos (2 ^ 51)) ≤ℤ offer.increase) × (offer.increase ≤ℤ pos (2 ^ 51))
   increase-in_range =
       let v = offer.vehicle in
       let after = built-up_to model well (inserted lists (insertion_of offer)) v may.built (subst (λ n. v < n) (sym (length-set lists v _)) may.vehicle) in
       let before = built-up_to model well lists v built may.vehicle in
-      let there = ap (route_cost model v) (route_set_same lists v (inserted_in (route lists v) (item_nodes (item_in offer.placing)) (places_in offer.placing)) may.vehicle) in
+      let there = ap (route_cost model v)
+      (route_set_same lists v (inserted_in (route lists v) (item_nodes (item_in offer.placing)) (places_in offer.placing)) may.vehicle) in
       let same = ap (route_cost model v) (placed_is (route lists v) offer.placing) in (
         omega (arith, ints, adds, same, there, after.at_least, after.at_most, before.at_least, before.at_most),
         omega (arith, ints, adds, same, there, after.at_least, after.at_most, before.at_least, before.at_most),
       )
 
 -- the best of the places of a list adds to the arcs of its vehicle what it says
-pub best-adds : (model : Model) (lists : List (List ℕ)) (v : ℕ) (placings : List Placing) (best : Option Offer) → best ≡ best_of model v (route lists v) None placings → IfSome best (AddsToArcs model lists)
-best-adds model lists v placings best is = by best (subst (λ o. IfSome o (IsOfPlace model v (route lists v))) (sym is) (best-of-place model v (route lists v) placings None tt))
+pub best-adds : (model : Model) (lists : List (List ℕ)) (v : ℕ) (placings : List Placing) (best : Option Offer)
+    → best ≡ best_of model v (route lists v) None placings → IfSome best (AddsToArcs model lists)
+best-adds model lists v placings best is =
+    by best (subst (λ o. IfSome o (IsOfPlace model v (route lists v))) (sym is) (best-of-place model v (route lists v) placings None tt))
   where
     by : (best : Option Offer) → IfSome best (IsOfPlace model v (route lists v)) → IfSome best (AddsToArcs model lists)
     by None is = is
     by (Some offer) is = subst (AddsToArcs model lists) (sym is) refl
 
 -- and it is of this vehicle
-pub best-vehicle : (model : Model) (lists : List (List ℕ)) (v : ℕ) (placings : List Placing) (best : Option Offer) → best ≡ best_of model v (route lists v) None placings → IfSome best (λ offer. offer.vehicle ≡ v)
-best-vehicle model lists v placings best is = by best (subst (λ o. IfSome o (IsOfPlace model v (route lists v))) (sym is) (best-of-place model v (route lists v) placings None tt))
+pub best-vehicle : (model : Model) (lists : List (List ℕ)) (v : ℕ) (placings : List Placing) (best : Option Offer)
+    → best ≡ best_of model v (route lists v) None placings → IfSome best (λ offer. offer.vehicle ≡ v)
+best-vehicle model lists v placings best is =
+    by best (subst (λ o. IfSome o (IsOfPlace model v (route lists v))) (sym is) (best-of-place model v (route lists v) placings None tt))
   where
     by : (best : Option Offer) → IfSome best (IsOfPlace model v (route lists v)) → IfSome best (λ offer. offer.vehicle ≡ v)
     by None is = is

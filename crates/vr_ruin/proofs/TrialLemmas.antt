@@ -35,8 +35,10 @@ use Rattle.vr_ruin.proofs.Fewer.{all_left, built_fewer, distinct_left, part_left
 
 -- ---- what may be written
 
-pub may_write_visits : (model : Model) (lists : List (List ℕ)) (seen : List ℕ) → seen ≡ visits model → AreBuilt model lists → (node : ℕ) → IsTrue (is_active lists node) → IsTrue (holds seen node)
-may_write_visits model lists seen same built node active = subst (λ vs. IsTrue (holds vs node)) (sym same) (visit_held model node (visits_of model lists built.are_lists node active))
+pub may_write_visits : (model : Model) (lists : List (List ℕ)) (seen : List ℕ) → seen ≡ visits model
+    → AreBuilt model lists → (node : ℕ) → IsTrue (is_active lists node) → IsTrue (holds seen node)
+may_write_visits model lists seen same built node active =
+    subst (λ vs. IsTrue (holds vs node)) (sym same) (visit_held model node (visits_of model lists built.are_lists node active))
 
 pub may_write_once : (model : Model) (lists : List (List ℕ)) → AreBuilt model lists → IsOnce lists
 may_write_once model lists built = once_of model lists built.are_lists
@@ -44,7 +46,8 @@ may_write_once model lists built = once_of model lists built.are_lists
 -- ---- the best of all places is the offer
 
 -- an item that is in no list may be put into each
-pub may_hold : (model : Model) (lists : List (List ℕ)) (v : ℕ) (item : Item) → AreBuilt model lists → length (route lists v) ≤ 1000 → IsItem model item → is_active lists (first_node (item_nodes item)) ≡ false → MayHold model (route lists v) item
+pub may_hold : (model : Model) (lists : List (List ℕ)) (v : ℕ) (item : Item) → AreBuilt model lists → length (route lists v) ≤ 1000
+    → IsItem model item → is_active lists (first_node (item_nodes item)) ≡ false → MayHold model (route lists v) item
 may_hold model lists v item built few is first = record {
   few = few;
   visits = built-visits model lists v built;
@@ -80,18 +83,21 @@ module _ (model : Model) (lists : List (List ℕ)) (v : ℕ) (low : v < length l
   -- the places that code goes through are those of the definition
   insertions_are : (item : Item) → map insertion_of (map (offer_for model v here) (placings_of here item)) ≡ insertions_into lists (item_nodes item) v
   insertions_are (Visit n) =
-      map_both insertion_of (offer_for model v here) (map (One n) (gaps here)) ∙ map_both (λ placing. insertion_of (offer_for model v here placing)) (One n) (gaps here)
+      map_both insertion_of (offer_for model v here) (map (One n) (gaps here))
+      ∙ map_both (λ placing. insertion_of (offer_for model v here placing)) (One n) (gaps here)
       ∙ sym (map_both (at_places (n ∷ [])) (λ t. t ∷ []) (gaps here))
   insertions_are (PickupAndDelivery p d) =
       let f = λ (placing : Placing). insertion_of (offer_for model v here placing) in
       map_both insertion_of (offer_for model v here) (each (gaps here) λ s. map (Two p d s) (from_to s (suc (length here))))
       ∙ map_each f (λ s. map (Two p d s) (from_to s (suc (length here)))) (gaps here)
-      ∙ each_same (λ s. map f (map (Two p d s) (from_to s (suc (length here))))) (λ s. map (at_places (p ∷ d ∷ [])) (map (λ t. s ∷ t ∷ []) (from_to s (suc (length here))))) (gaps here)
+      ∙ each_same (λ s. map f (map (Two p d s) (from_to s (suc (length here)))))
+      (λ s. map (at_places (p ∷ d ∷ [])) (map (λ t. s ∷ t ∷ []) (from_to s (suc (length here))))) (gaps here)
       (λ s. map_both f (Two p d s) (from_to s (suc (length here))) ∙ sym (map_both (at_places (p ∷ d ∷ [])) (λ t. s ∷ t ∷ []) (from_to s (suc (length here)))))
       ∙ sym (map_each (at_places (p ∷ d ∷ [])) (λ s. map (λ t. s ∷ t ∷ []) (from_to s (suc (length here)))) (gaps here))
 
   -- what code compares and tests of an offer is what the definition does
-  known_of : (placing : Placing) → IsKnown insertion_of (offer_key model lists) key_of (keeps_open model lists) (λ offer. Unit {0}) (λ offer. is_route_open model offer.vehicle (placed here offer.placing)) (offer_for model v here placing)
+  known_of : (placing : Placing) → IsKnown insertion_of (offer_key model lists) key_of (keeps_open model lists)
+      (λ offer. Unit {0}) (λ offer. is_route_open model offer.vehicle (placed here offer.placing)) (offer_for model v here placing)
   known_of placing =
       let after = placed_is here placing in
       let there = route_set_same lists v (inserted_in here (item_nodes (item_in placing)) (places_in placing)) low in
@@ -105,17 +111,22 @@ module _ (model : Model) (lists : List (List ℕ)) (v : ℕ) (low : v < length l
   best_is_offer item =
       let offers_in = map (offer_for model v here) (placings_of here item) in
       let folded = fold-map (weigh model here) (offer_for model v here) None (placings_of here item) in
-      let best = IsBest-fold insertion_of (offer_key model lists) key_of (keeps_open model lists) (λ offer. Unit {0}) (λ offer. is_route_open model offer.vehicle (placed here offer.placing)) None offers_in []
+      let best = IsBest-fold insertion_of (offer_key model lists) key_of (keeps_open model lists)
+      (λ offer. Unit {0}) (λ offer. is_route_open model offer.vehicle (placed here offer.placing)) None offers_in []
       (IsBest-none insertion_of (offer_key model lists) key_of (keeps_open model lists) (λ offer. Unit {0}))
       (λ o among. from_map (offer_for model v here) (placings_of here item) o among (λ placing there same.
-      subst (IsKnown insertion_of (offer_key model lists) key_of (keeps_open model lists) (λ offer. Unit {0}) (λ offer. is_route_open model offer.vehicle (placed here offer.placing))) (sym same) (known_of placing))) in
-      ap (option_map insertion_of) (sym folded) ∙ best.least ∙ ap (λ xs. least_by (offer_key model lists) (filter (keeps_open model lists) xs)) (insertions_are item)
+      subst (IsKnown insertion_of (offer_key model lists) key_of (keeps_open model lists) (λ offer. Unit {0})
+      (λ offer. is_route_open model offer.vehicle (placed here offer.placing))) (sym same) (known_of placing))) in
+      ap (option_map insertion_of) (sym folded) ∙ best.least
+      ∙ ap (λ xs. least_by (offer_key model lists) (filter (keeps_open model lists) xs)) (insertions_are item)
 
 -- ---- an offer that is written out
 
-pub written_is : (lists inside : List (List ℕ)) (offer : Offer) (xs list : List ℕ) → xs ≡ placed list offer.placing → list ≡ route inside offer.vehicle → inside ≡ lists → with_route inside offer.vehicle xs ≡ inserted lists (insertion_of offer)
+pub written_is : (lists inside : List (List ℕ)) (offer : Offer) (xs list : List ℕ) → xs ≡ placed list offer.placing
+    → list ≡ route inside offer.vehicle → inside ≡ lists → with_route inside offer.vehicle xs ≡ inserted lists (insertion_of offer)
 written_is lists inside offer xs list written stands same =
-    ap (with_route inside offer.vehicle) (written ∙ ap (λ l. placed l offer.placing) stands ∙ placed_is (route inside offer.vehicle) offer.placing) ∙ ap (λ ls. inserted ls (insertion_of offer)) same
+    ap (with_route inside offer.vehicle) (written ∙ ap (λ l. placed l offer.placing) stands ∙ placed_is (route inside offer.vehicle) offer.placing)
+    ∙ ap (λ ls. inserted ls (insertion_of offer)) same
 
 -- ---- a list that is cut
 
@@ -125,14 +136,16 @@ module _ (model : Model) (lists : List (List ℕ)) (v : ℕ) (string : StringPla
   left_over = left_of_list model (route lists v) string
 
   pub left_visits : list_all (is_visit model) left_over ≡ true
-  left_visits = all_left (is_visit model) (λ node. not (goes_out model (gone_of (route lists v) string) node)) (route lists v) (built-visits model lists v built)
+  left_visits =
+      all_left (is_visit model) (λ node. not (goes_out model (gone_of (route lists v) string) node)) (route lists v) (built-visits model lists v built)
 
   pub left_distinct : is_distinct left_over ≡ true
   left_distinct = distinct_left (λ node. not (goes_out model (gone_of (route lists v) string) node)) (route lists v) (built-distinct model lists v built)
 
   -- it is open
   pub cut_built : is_route_open model v left_over ≡ true → AreBuilt model (with_route lists v left_over)
-  cut_built opens = built_fewer model lists v left_over built low (part_left (λ node. not (goes_out model (gone_of (route lists v) string) node)) (route lists v) (built-distinct model lists v built)) opens
+  cut_built opens = built_fewer model lists v left_over built low
+      (part_left (λ node. not (goes_out model (gone_of (route lists v) string) node)) (route lists v) (built-distinct model lists v built)) opens
 
   pub cut_is : is_route_open model v left_over ≡ true → with_route lists v left_over ≡ with_route lists v (list_after_string model v (route lists v) string)
   cut_is opens = ap (λ b. with_route lists v (cond b left_over (route lists v))) (sym opens)

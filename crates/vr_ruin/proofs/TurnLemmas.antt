@@ -1,5 +1,6 @@
 -- Items in their turns, as code puts them back.
-use Rattle.std.proofs.Common.{◌≡◌, ◌∙◌, ◌<◌, ◌≤◌, ◌-◌, ℕ, zero, suc, List, [], ◌∷◌, Bool, true, false, Option, Some, None, refl, ap, ap₂, sym, arith, length, map, get_or}
+use Rattle.std.proofs.Common.{◌≡◌, ◌∙◌, ◌<◌, ◌≤◌, ◌-◌, ℕ, zero, suc, List, [], ◌∷◌, Bool, true, false, Option, Some, None, refl, ap, ap₂, sym, arith, length}
+use Rattle.std.proofs.Common.{map, get_or}
 use Rattle.std.specs.Prelude.{◌/◌, min, pos, slice_get, unwrap_or, ℤ, IfSome}
 use Rattle.std.specs.Option.{option_map}
 use Rattle.std.proofs.lemmas.Int.{ints}
@@ -35,7 +36,8 @@ pub penalty_none : (model : Model) (node g : ℕ) → g ≡ group_number model n
 penalty_none model node g is low =
     sym (ap penalty_of_group (find_at (λ group. holds group.nodes node) model.groups ∙ ap (slice_get model.groups) (sym is) ∙ past model.groups g low))
 
-pub penalty_is : (model : Model) (node g : ℕ) (group : Group) → g ≡ group_number model node → slice_get model.groups g ≡ Some group → unwrap_or group.penalty (pos 0) ≡ penalty_at model node
+pub penalty_is : (model : Model) (node g : ℕ) (group : Group) → g ≡ group_number model node
+    → slice_get model.groups g ≡ Some group → unwrap_or group.penalty (pos 0) ≡ penalty_at model node
 penalty_is model node g group is there =
     sym (ap penalty_of_group (find_at (λ group. holds group.nodes node) model.groups ∙ ap (slice_get model.groups) (sym is) ∙ there))
 
@@ -54,7 +56,8 @@ got_map f (x ∷ xs) zero = refl
 got_map f (x ∷ xs) (suc k) = got_map f xs k
 
 module _ (model : Model) (wide : Bool) (lists : List (List ℕ)) (item : List ℕ) (r : ℕ) (chosen : Option Priced) where
-  pub chosen_offer : (ranked : List Priced) → map insertion_at ranked ≡ sorted_by (rank_key model lists) (offers model wide lists item) → chosen ≡ slice_get ranked (min r (length ranked - 1))
+  pub chosen_offer : (ranked : List Priced) → map insertion_at ranked ≡ sorted_by (rank_key model lists) (offers model wide lists item)
+      → chosen ≡ slice_get ranked (min r (length ranked - 1))
       → option_map insertion_at chosen ≡ offer_at model wide lists item r
   chosen_offer ranked order is =
       ap (option_map insertion_at) is ∙ sym (got_map insertion_at ranked (min r (length ranked - 1)))
@@ -62,7 +65,8 @@ module _ (model : Model) (wide : Bool) (lists : List (List ℕ)) (item : List �
       ∙ ap (λ xs. slice_get xs (min r (length xs - 1))) order
 
   -- its item is the one that is put back
-  pub chosen_item : IsWellFormed model → option_map insertion_at chosen ≡ offer_at model wide lists item r → IfSome chosen (λ best. (insertion_at best).item ≡ item)
+  pub chosen_item : IsWellFormed model → option_map insertion_at chosen ≡ offer_at model wide lists item r
+      → IfSome chosen (λ best. (insertion_at best).item ≡ item)
   chosen_item well_formed e = by chosen e
     where
       by : (c : Option Priced) → option_map insertion_at c ≡ offer_at model wide lists item r → IfSome c (λ best. (insertion_at best).item ≡ item)
@@ -70,7 +74,8 @@ module _ (model : Model) (wide : Bool) (lists : List (List ℕ)) (item : List �
       by (Some best) e = (chosen_is model well_formed wide lists item r (insertion_at best) (sym e)).item_is
 
   -- the first one
-  pub first_chosen : option_map insertion_at chosen ≡ first_in (sorted_by (rank_key model lists) (offers model wide lists item)) → r ≡ 0 → option_map insertion_at chosen ≡ offer_at model wide lists item r
+  pub first_chosen : option_map insertion_at chosen ≡ first_in (sorted_by (rank_key model lists) (offers model wide lists item))
+      → r ≡ 0 → option_map insertion_at chosen ≡ offer_at model wide lists item r
   first_chosen e none =
       let in_order = sorted_by (rank_key model lists) (offers model wide lists item) in
       e ∙ ap (slice_get in_order) (at_first r (length in_order - 1) none)
@@ -81,21 +86,25 @@ module _ (model : Model) (wide : Bool) (lists : List (List ℕ)) (item : List �
 
 -- ---- an item in its turn
 
-pub put_back_is : (model : Model) (wide : Bool) (lists after : List (List ℕ)) (item : List ℕ) (words later : Lcg) (n : ℕ) → fits_beside model lists item ≡ true → (n, later) ≡ zeros words
+pub put_back_is : (model : Model) (wide : Bool) (lists after : List (List ℕ)) (item : List ℕ) (words later : Lcg) (n : ℕ)
+    → fits_beside model lists item ≡ true → (n, later) ≡ zeros words
     → after ≡ with_offer model lists (offer_at model wide lists item (n / 7)) → (after, later) ≡ put_back model wide (lists, words) item
 put_back_is model wide lists after item words later n fits drawn is =
     ap₂ (λ a w. (a, w)) (is ∙ ap (λ word. with_offer model lists (offer_at model wide lists item (word.0 / 7))) drawn) (ap (λ word. word.1) drawn)
     ∙ sym (opened fits)
   where
-    opened : fits_beside model lists item ≡ true → put_back model wide (lists, words) item ≡ (with_offer model lists (offer_at model wide lists item ((zeros words).0 / 7)), (zeros words).1)
+    opened : fits_beside model lists item ≡ true
+        → put_back model wide (lists, words) item ≡ (with_offer model lists (offer_at model wide lists item ((zeros words).0 / 7)), (zeros words).1)
     opened e = by (fits_beside model lists item) e
       where
-        by : (b : Bool) → b ≡ true → (let next : List (List ℕ) × Lcg = elim b [ true ↦ let word = zeros words in (with_offer model lists (offer_at model wide lists item (word.0 / 7)), word.1) | false ↦ (lists, words) ] in
+        by : (b : Bool) → b ≡ true → (let next : List (List ℕ) × Lcg = elim b
+            [ true ↦ let word = zeros words in (with_offer model lists (offer_at model wide lists item (word.0 / 7)), word.1) | false ↦ (lists, words) ] in
             next ≡ (with_offer model lists (offer_at model wide lists item ((zeros words).0 / 7)), (zeros words).1))
         by true e = refl
         by false e = absurd (cc)
 
 -- the item at a place is that of its candidate
-pub item_is_at : (model : Model) (candidates : List Candidate) (k : ℕ) (d : Candidate) → AreCandidates model candidates → k < length candidates → item_nodes (get_or candidates k d).item ≡ item_at model k
+pub item_is_at : (model : Model) (candidates : List Candidate) (k : ℕ) (d : Candidate)
+    → AreCandidates model candidates → k < length candidates → item_nodes (get_or candidates k d).item ≡ item_at model k
 item_is_at model candidates k d are low =
     sym (get_or-map (λ candidate. item_nodes candidate.item) candidates k d [] low) ∙ ap (λ xs. get_or xs k []) are.all

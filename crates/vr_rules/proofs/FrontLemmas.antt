@@ -1,5 +1,6 @@
 -- What a vehicle reaches at the end of a list, from what it reaches one visit before.
-use Rattle.std.proofs.Common.{◌≡◌, ◌∙◌, ◌+◌, ◌-◌, ◌<◌, ℕ, zero, suc, List, [], ◌∷◌, ◌++◌, Bool, true, false, refl, ap, sym, subst, arith, length, get_or, set, take, map, ℤ, inl, inr, append_assoc}
+use Rattle.std.proofs.Common.{◌≡◌, ◌∙◌, ◌+◌, ◌-◌, ◌<◌, ℕ, zero, suc, List, [], ◌∷◌, ◌++◌, Bool, true, false, refl, ap, sym, subst, arith, length, get_or, set}
+use Rattle.std.proofs.Common.{take, map, ℤ, inl, inr, append_assoc}
 use Rattle.std.specs.Prelude.{◌≤◌, ◌&&◌, ◌||◌, slice_index}
 use Rattle.vr_model.specs.routes.Rules.{allows_vehicle, is_route_open, keeps_policy, serves_pair}
 use Rattle.vr_rules.specs.RoutesOpen.{is_feasible_in_each}
@@ -54,7 +55,8 @@ tail_is model v (n ∷ ns) = last_from n ns
 -- the last of visits is a node
 pub last_below : (model : Model) (origin : ℕ) (list : List ℕ) → origin < model.nodes → list_all (is_visit model) list ≡ true → last_of origin list < model.nodes
 last_below model origin [] low visits = low
-last_below model origin (n ∷ ns) low visits = last_below model n ns (visit_below model n (and_left (is_visit model n) _ visits)) (and_right (is_visit model n) _ visits)
+last_below model origin (n ∷ ns) low visits =
+    last_below model n ns (visit_below model n (and_left (is_visit model n) _ visits)) (and_right (is_visit model n) _ visits)
 
 -- the visits of two lists, one behind the other
 pub visits_before : (model : Model) (xs ys : List ℕ) → list_all (is_visit model) (xs ++ ys) ≡ true → list_all (is_visit model) xs ≡ true
@@ -66,10 +68,12 @@ visits_after model xs ys visits = and_right (list_all (is_visit model) xs) _ (sy
 pub visits_taken : (model : Model) (list : List ℕ) (k : ℕ) → list_all (is_visit model) list ≡ true → list_all (is_visit model) (take k list) ≡ true
 visits_taken model list zero visits = refl
 visits_taken model [] (suc k) visits = refl
-visits_taken model (n ∷ ns) (suc k) visits = and_both (is_visit model n) _ (and_left (is_visit model n) _ visits) (visits_taken model ns k (and_right (is_visit model n) _ visits))
+visits_taken model (n ∷ ns) (suc k) visits =
+    and_both (is_visit model n) _ (and_left (is_visit model n) _ visits) (visits_taken model ns k (and_right (is_visit model n) _ visits))
 
 -- what was made of the entries before a place, and what stays of those behind it
-pub moved_more : {A : Type 0} (P : ℕ → A → Type 0) (xs : List A) (n : ℕ) (x : A) → n < length xs → ((k : ℕ) (d : A) → k < n → k < length xs → P k (get_or xs k d)) → P n x
+pub moved_more : {A : Type 0} (P : ℕ → A → Type 0) (xs : List A) (n : ℕ) (x : A)
+    → n < length xs → ((k : ℕ) (d : A) → k < n → k < length xs → P k (get_or xs k d)) → P n x
     → (k : ℕ) (d : A) → k < n + 1 → k < length (set xs n x) → P k (get_or (set xs n x) k d)
 moved_more P xs n x within before new k d low lt = elim (cases_lt k n) [
   | inl earlier ↦ subst (P k) (sym (get_or-set_other xs n k x d (omega (arith, earlier)))) (before k d earlier (omega (arith, earlier, within)))
@@ -83,7 +87,8 @@ left_behind P xs n x left k d low lt =
     subst (P k) (sym (get_or-set_other xs n k x d (omega (arith, low)))) (left k d (omega (arith, low)) (omega (arith, lt, more)))
 
 -- the front of a dimension, as code reads it
-pub front_at : (model : Model) (v : ℕ) (list : List ℕ) (fronts : List Front) → AreFronts model v list fronts → (d : ℕ) (front : Front) → front ≡ get_or fronts d front → d < length fronts → IsFrontOf model d v list front
+pub front_at : (model : Model) (v : ℕ) (list : List ℕ) (fronts : List Front) → AreFronts model v list fronts
+    → (d : ℕ) (front : Front) → front ≡ get_or fronts d front → d < length fronts → IsFrontOf model d v list front
 front_at model v list fronts are d front is lt = subst (IsFrontOf model d v list) (sym is) (are.each d front lt)
 
 -- the last of two lists, one behind the other
@@ -92,16 +97,25 @@ last_behind origin [] ys = refl
 last_behind origin (x ∷ xs) ys = last_behind x xs ys
 
 -- what a visit allows, as code reads it
-pub visit_set_at : (model : Model) (d v : ℕ) (sets : List (List Run)) → AreVisitSets model d v sets → (node : ℕ) (set : List Run) → set ≡ get_or sets node set → is_visit model node ≡ true → IsStopSet model d v (Visit node) set
+pub visit_set_at : (model : Model) (d v : ℕ) (sets : List (List Run)) → AreVisitSets model d v sets
+    → (node : ℕ) (set : List Run) → set ≡ get_or sets node set → is_visit model node ≡ true → IsStopSet model d v (Visit node) set
 visit_set_at model d v sets are node set is visit =
     let low = visit_below model node visit in
     subst (IsStopSet model d v (Visit node)) (sym is) (are.each node set (omega (arith, low, are.one_of_each)) visit)
 
 -- a front may cross an arc to a visit
-pub to_visit : (model : Model) (list : List ℕ) (front : Front) → IsFront model list front → (levels : List (List Run)) (hop : Hop) (node : ℕ) (set : List Run) → AreLevels front.breaks levels → IsSoundHop hop → set ≡ get_or front.visits.items node set
+pub to_visit : (model : Model) (list : List ℕ) (front : Front) → IsFront model list front
+    → (levels : List (List Run)) (hop : Hop) (node : ℕ) (set : List Run)
+    → AreLevels front.breaks levels → IsSoundHop hop → set ≡ get_or front.visits.items node set
     → is_visit model node ≡ true → IsCrossing levels hop set front.breaks
 to_visit model list front is levels hop node set form sound read visit =
-    record { each_break = is.each_break; few_breaks = is.few_breaks; form = form; arc = sound; cumuls = (visit_set_at model front.dimension front.vehicle front.visits.items is.visits node set read visit).cumuls }
+    record {
+      each_break = is.each_break;
+      few_breaks = is.few_breaks;
+      form = form;
+      arc = sound;
+      cumuls = (visit_set_at model front.dimension front.vehicle front.visits.items is.visits node set read visit).cumuls;
+    }
 
 -- the last node of an item is that of a list with the item at its end
 pub item_last : (origin : ℕ) (list : List ℕ) (item : Item) → last_node (item_nodes item) ≡ last_of origin (list ++ item_nodes item)
@@ -129,19 +143,27 @@ module _ (model : Model) (well_formed : IsWellFormed model) (d v : ℕ) (low_d :
   sound_line list driven = lines_are_sound model well_formed d v low_d low_v list driven.some driven.visits driven.distinct
 
   -- the levels of the start, whatever comes behind
-  pub behind_start : (set : List Run) (levels : List (List Run)) → IsStopSet model d v Start set → AreStartLevels set (breaks_of (dimension_at model d) v) levels → AreReachedBehind model d v [] levels
-  behind_start set levels is are rest driven = start_is_reached (line model d v rest) (sound_line rest driven) set levels (record { exact = is.exact; cumuls = is.cumuls }) are
+  pub behind_start : (set : List Run) (levels : List (List Run)) → IsStopSet model d v Start set
+      → AreStartLevels set (breaks_of (dimension_at model d) v) levels → AreReachedBehind model d v [] levels
+  behind_start set levels is are rest driven =
+      start_is_reached (line model d v rest) (sound_line rest driven) set levels (record { exact = is.exact; cumuls = is.cumuls }) are
 
-  module _ (list : List ℕ) (from new : List (List Run)) (hop : Hop) (set : List Run) (breaks : List BreakRow) (reached : AreReachedBehind model d v list from) (breaks_are : breaks ≡ breaks_of (dimension_at model d) v) (crossed : AreCrossed from hop set breaks new) where
+  module _ (list : List ℕ) (from new : List (List Run)) (hop : Hop) (set : List Run)
+      (breaks : List BreakRow) (reached : AreReachedBehind model d v list from)
+      (breaks_are : breaks ≡ breaks_of (dimension_at model d) v) (crossed : AreCrossed from hop set breaks new) where
     -- the levels behind an arc, in a line where the arc and the stop behind it are these
     in_line : (whole : List ℕ) → IsDriven model whole → AreReached (line model d v whole) (length list) from → length list < suc (length whole)
-        → hop ≡ hop_at (line model d v whole) (length list) → IsAllowedSet (line model d v whole) (suc (length list)) set → AreReached (line model d v whole) (suc (length list)) new
+        → hop ≡ hop_at (line model d v whole) (length list) → IsAllowedSet (line model d v whole) (suc (length list)) set
+        → AreReached (line model d v whole) (suc (length list)) new
     in_line whole driven before few hop_is allowed =
-        reached_behind_arc (line model d v whole) (sound_line whole driven) (length list) (let n = arcs_of_line model d v whole in omega (arith, few, n)) set from new allowed before
-        (subst (λ h. AreCrossed from h set (breaks_of (dimension_at model d) v) new) hop_is (subst (λ rows. AreCrossed from hop set rows new) breaks_are crossed))
+        reached_behind_arc (line model d v whole) (sound_line whole driven) (length list)
+        (let n = arcs_of_line model d v whole in omega (arith, few, n)) set from new allowed before
+        (subst (λ h. AreCrossed from h set (breaks_of (dimension_at model d) v) new)
+        hop_is (subst (λ rows. AreCrossed from hop set rows new) breaks_are crossed))
 
     -- one visit more
-    pub behind_visit : (node : ℕ) → hop ≡ hop_between model d v (last_of (vehicle_at model v).start list) node → IsStopSet model d v (Visit node) set → AreReachedBehind model d v (list ++ node ∷ []) new
+    pub behind_visit : (node : ℕ) → hop ≡ hop_between model d v (last_of (vehicle_at model v).start list) node
+        → IsStopSet model d v (Visit node) set → AreReachedBehind model d v (list ++ node ∷ []) new
     behind_visit node hop_is is rest driven =
         let same : (list ++ node ∷ []) ++ rest ≡ list ++ node ∷ rest = append_assoc list (node ∷ []) rest in
         let more : length (list ++ node ∷ []) ≡ suc (length list) = let n = length-append list (node ∷ []) in omega (arith, n) in
@@ -154,7 +176,8 @@ module _ (model : Model) (well_formed : IsWellFormed model) (d v : ℕ) (low_d :
         stops : (whole ++ (vehicle_at model v).end ∷ []) ≡ list ++ node ∷ (rest ++ (vehicle_at model v).end ∷ [])
         stops = append_assoc list (node ∷ rest) ((vehicle_at model v).end ∷ [])
 
-        arc : get_or (line model d v whole).arcs (length list) no_arc ≡ line_arc model d v (record { vehicle = v; origin = last_of (vehicle_at model v).start list; target = node })
+        arc : get_or (line model d v whole).arcs (length list) no_arc
+            ≡ line_arc model d v (record { vehicle = v; origin = last_of (vehicle_at model v).start list; target = node })
         arc = ap (λ nodes. get_or (map (line_arc model d v) (arcs_from v (vehicle_at model v).start nodes)) (length list) no_arc) stops
             ∙ arc_behind (line_arc model d v) v (vehicle_at model v).start list node (rest ++ (vehicle_at model v).end ∷ []) no_arc
 
@@ -169,22 +192,28 @@ module _ (model : Model) (well_formed : IsWellFormed model) (d v : ℕ) (low_d :
 
         there : IsDriven model whole → AreReached (line model d v whole) (suc (length list)) new
         there driven = in_line whole driven (reached (node ∷ rest) driven) (let n = length-append list (node ∷ rest) in omega (arith, n))
-            (hop_is ∙ ap (hop_of (dimension_at model d).slack_max) (sym arc)) (record { exact = λ x. is.exact x ∙ ap (λ f. f x) (sym stop); cumuls = is.cumuls })
+            (hop_is ∙ ap (hop_of (dimension_at model d).slack_max) (sym arc))
+            (record { exact = λ x. is.exact x ∙ ap (λ f. f x) (sym stop); cumuls = is.cumuls })
 
     -- the end
-    pub at_end : hop ≡ hop_between model d v (last_of (vehicle_at model v).start list) (vehicle_at model v).end → IsStopSet model d v End set → IsDriven model list → EndsAt (line model d v list) breaks new
+    pub at_end : hop ≡ hop_between model d v (last_of (vehicle_at model v).start list) (vehicle_at model v).end
+        → IsStopSet model d v End set → IsDriven model list → EndsAt (line model d v list) breaks new
     at_end hop_is is driven = record {
       sound = sound_line list driven;
       breaks_are = sym breaks_are;
       reached = subst (λ k. AreReached (line model d v list) k new) (sym (arcs_of_line model d v list))
-          (in_line list driven (subst (λ whole. AreReached (line model d v whole) (length list) from) whole_is (reached [] (subst (IsDriven model) (sym whole_is) driven))) (omega arith)
-          (hop_is ∙ ap (hop_of (dimension_at model d).slack_max) (sym arc)) (record { exact = λ x. is.exact x ∙ ap (λ f. f x) (sym stop); cumuls = is.cumuls }));
+          (in_line list driven
+          (subst (λ whole. AreReached (line model d v whole) (length list) from) whole_is (reached [] (subst (IsDriven model) (sym whole_is) driven)))
+          (omega arith)
+          (hop_is ∙ ap (hop_of (dimension_at model d).slack_max) (sym arc))
+          (record { exact = λ x. is.exact x ∙ ap (λ f. f x) (sym stop); cumuls = is.cumuls }));
     }
       where
         whole_is : list ++ [] ≡ list
         whole_is = append-nil list
 
-        arc : get_or (line model d v list).arcs (length list) no_arc ≡ line_arc model d v (record { vehicle = v; origin = last_of (vehicle_at model v).start list; target = (vehicle_at model v).end })
+        arc : get_or (line model d v list).arcs (length list) no_arc
+            ≡ line_arc model d v (record { vehicle = v; origin = last_of (vehicle_at model v).start list; target = (vehicle_at model v).end })
         arc = arc_behind (line_arc model d v) v (vehicle_at model v).start list (vehicle_at model v).end [] no_arc
 
         allows : ℕ → ℤ → Bool
@@ -201,22 +230,31 @@ module _ (model : Model) (well_formed : IsWellFormed model) (d v : ℕ) (low_d :
 module _ (model : Model) (v : ℕ) (list nodes : List ℕ) (stands : is_route_open model v list ≡ true) (some : is_empty (list ++ nodes) ≡ false) where
   allowed_so_far : (list : List ℕ) → is_route_open model v list ≡ true → list_all (allows_vehicle model v) list ≡ true
   allowed_so_far [] h = refl
-  allowed_so_far (n ∷ ns) h = and_right (keeps_policy model v (n ∷ ns)) _ (and_right (list_all (serves_pair (n ∷ ns)) model.pairs) _ (and_right (is_feasible_in_each model v (n ∷ ns)) _ h))
+  allowed_so_far (n ∷ ns) h = and_right (keeps_policy model v (n ∷ ns)) _
+      (and_right (list_all (serves_pair (n ∷ ns)) model.pairs) _ (and_right (is_feasible_in_each model v (n ∷ ns)) _ h))
 
   all_parts : is_route_open model v (list ++ nodes)
-      ≡ (is_feasible_in_each model v (list ++ nodes) && (list_all (serves_pair (list ++ nodes)) model.pairs && (keeps_policy model v (list ++ nodes) && list_all (allows_vehicle model v) nodes)))
+      ≡ (is_feasible_in_each model v (list ++ nodes)
+      && (list_all (serves_pair (list ++ nodes)) model.pairs && (keeps_policy model v (list ++ nodes) && list_all (allows_vehicle model v) nodes)))
   all_parts =
-      ap (λ b. b || (is_feasible_in_each model v (list ++ nodes) && (list_all (serves_pair (list ++ nodes)) model.pairs && (keeps_policy model v (list ++ nodes) && list_all (allows_vehicle model v) (list ++ nodes))))) some
-      ∙ ap (λ b. is_feasible_in_each model v (list ++ nodes) && (list_all (serves_pair (list ++ nodes)) model.pairs && (keeps_policy model v (list ++ nodes) && b)))
+      ap (λ b. b || (is_feasible_in_each model v (list ++ nodes) && (list_all (serves_pair (list ++ nodes)) model.pairs
+      && (keeps_policy model v (list ++ nodes) && list_all (allows_vehicle model v) (list ++ nodes))))) some
+      ∙ ap (λ b. is_feasible_in_each model v (list ++ nodes)
+      && (list_all (serves_pair (list ++ nodes)) model.pairs && (keeps_policy model v (list ++ nodes) && b)))
       (list_all-append (allows_vehicle model v) list nodes ∙ ap (λ b. b && list_all (allows_vehicle model v) nodes) (allowed_so_far list stands))
 
   pub closed_by_vehicle : list_all (allows_vehicle model v) nodes ≡ false → is_route_open model v (list ++ nodes) ≡ false
-  closed_by_vehicle h = all_parts ∙ ap (λ b. is_feasible_in_each model v (list ++ nodes) && (list_all (serves_pair (list ++ nodes)) model.pairs && (keeps_policy model v (list ++ nodes) && b))) h ∙ last_fails (is_feasible_in_each model v (list ++ nodes)) (list_all (serves_pair (list ++ nodes)) model.pairs) (keeps_policy model v (list ++ nodes))
+  closed_by_vehicle h = all_parts ∙ ap
+      (λ b. is_feasible_in_each model v (list ++ nodes) && (list_all (serves_pair (list ++ nodes)) model.pairs && (keeps_policy model v (list ++ nodes) && b)))
+      h ∙ last_fails (is_feasible_in_each model v (list ++ nodes)) (list_all (serves_pair (list ++ nodes)) model.pairs) (keeps_policy model v (list ++ nodes))
 
   pub closed_by_dimension : is_feasible_in_each model v (list ++ nodes) ≡ false → is_route_open model v (list ++ nodes) ≡ false
-  closed_by_dimension h = all_parts ∙ ap (λ b. b && (list_all (serves_pair (list ++ nodes)) model.pairs && (keeps_policy model v (list ++ nodes) && list_all (allows_vehicle model v) nodes))) h
+  closed_by_dimension h = all_parts
+      ∙ ap (λ b. b && (list_all (serves_pair (list ++ nodes)) model.pairs && (keeps_policy model v (list ++ nodes) && list_all (allows_vehicle model v) nodes)))
+      h
 
   pub open_by_pairs : list_all (allows_vehicle model v) nodes ≡ true → is_feasible_in_each model v (list ++ nodes) ≡ true
       → is_route_open model v (list ++ nodes) ≡ (list_all (serves_pair (list ++ nodes)) model.pairs && keeps_policy model v (list ++ nodes))
   open_by_pairs h g =
-      all_parts ∙ (λ t. g t && (list_all (serves_pair (list ++ nodes)) model.pairs && (keeps_policy model v (list ++ nodes) && h t))) ∙ inner_tell (list_all (serves_pair (list ++ nodes)) model.pairs) (keeps_policy model v (list ++ nodes))
+      all_parts ∙ (λ t. g t && (list_all (serves_pair (list ++ nodes)) model.pairs && (keeps_policy model v (list ++ nodes) && h t)))
+      ∙ inner_tell (list_all (serves_pair (list ++ nodes)) model.pairs) (keeps_policy model v (list ++ nodes))

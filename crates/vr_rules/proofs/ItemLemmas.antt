@@ -1,5 +1,6 @@
 -- The items of a model, node by node.
-use Rattle.std.proofs.Common.{◌≡◌, ◌∙◌, ◌<◌, ◌+◌, ◌++◌, ℕ, zero, suc, List, [], ◌∷◌, Bool, true, false, cond, Option, Some, None, refl, ap, ap₂, sym, subst, arith, length, get_or}
+use Rattle.std.proofs.Common.{◌≡◌, ◌∙◌, ◌<◌, ◌+◌, ◌++◌, ℕ, zero, suc, List, [], ◌∷◌, Bool, true, false, cond, Option, Some, None, refl, ap, ap₂, sym, subst}
+use Rattle.std.proofs.Common.{arith, length, get_or}
 use Rattle.std.specs.Prelude.{map, filter, ◌||◌, ◌==◌, slice_get, All, IfSome, if◌then◌else◌}
 use Rattle.std.specs.List.{position_or_len}
 use Rattle.std.proofs.lemmas.List.{append-nil, map-append}
@@ -29,7 +30,8 @@ pub each-one : (b : Bool) (f : ℕ → List (List ℕ)) (n : ℕ) → each (cond
 each-one true f n = append-nil (f n)
 each-one false f n = refl
 
-pub items_below-more : (model : Model) (n : ℕ) → items_below model (n + 1) ≡ items_below model n ++ (if is_visit model n then items_at (pair_of model n) n else [])
+pub items_below-more : (model : Model) (n : ℕ)
+    → items_below model (n + 1) ≡ items_below model n ++ (if is_visit model n then items_at (pair_of model n) n else [])
 items_below-more model n =
     let f = λ (node : ℕ). items_at (pair_of model node) node in
     ap (λ ns. each (filter (is_visit model) ns) f) (below-more n)
@@ -40,7 +42,8 @@ items_below-more model n =
 -- ---- each is an item
 
 -- the pair that a node is in is one of the pairs
-found : (model : Model) (node : ℕ) (pair : Pair) → pair_of model node ≡ Some pair → (k : ℕ) × (k < length model.pairs) × ((d : Pair) → get_or model.pairs k d ≡ pair)
+found : (model : Model) (node : ℕ) (pair : Pair) → pair_of model node ≡ Some pair
+    → (k : ℕ) × (k < length model.pairs) × ((d : Pair) → get_or model.pairs k d ≡ pair)
 found model node pair e =
     let p = λ (pair : Pair). (pair.pickup == node) || (pair.delivery == node) in
     at model.pairs (position_or_len p model.pairs) pair (sym (find_at p model.pairs) ∙ e)
@@ -50,12 +53,15 @@ found model node pair e =
     at (x ∷ xs) zero pair e = (0, omega arith, λ d. cc)
     at (x ∷ xs) (suc k) pair e = let r = at xs k pair e in let l = r.1 in (suc r.0, omega (arith, l), r.2)
 
-distinct-nodes : (pairs : List Pair) (k : ℕ) (pair : Pair) → k < length pairs → ((d : Pair) → get_or pairs k d ≡ pair) → is_distinct (each pairs nodes_of_pair) ≡ true → is_distinct (nodes_of_pair pair) ≡ true
+distinct-nodes : (pairs : List Pair) (k : ℕ) (pair : Pair) → k < length pairs → ((d : Pair) → get_or pairs k d ≡ pair)
+    → is_distinct (each pairs nodes_of_pair) ≡ true → is_distinct (nodes_of_pair pair) ≡ true
 distinct-nodes [] k pair low is h = absurd (omega (arith, low))
-distinct-nodes (x ∷ xs) zero pair low is h = subst (λ p. is_distinct (nodes_of_pair p) ≡ true) (is pair) (is_distinct-left (nodes_of_pair x) (each xs nodes_of_pair) h)
+distinct-nodes (x ∷ xs) zero pair low is h =
+    subst (λ p. is_distinct (nodes_of_pair p) ≡ true) (is pair) (is_distinct-left (nodes_of_pair x) (each xs nodes_of_pair) h)
 distinct-nodes (x ∷ xs) (suc k) pair low is h = distinct-nodes xs k pair (omega (arith, low)) is (is_distinct-right (nodes_of_pair x) (each xs nodes_of_pair) h)
 
-of_pair : (model : Model) → IsWellFormed model → (node : ℕ) (pair : Pair) → pair_of model node ≡ Some pair → IsItem model (PickupAndDelivery pair.pickup pair.delivery)
+of_pair : (model : Model) → IsWellFormed model → (node : ℕ) (pair : Pair)
+    → pair_of model node ≡ Some pair → IsItem model (PickupAndDelivery pair.pickup pair.delivery)
 of_pair model well_formed node pair e =
     let there = found model node pair e in
     let low = there.1 in
@@ -70,14 +76,17 @@ of_visit : (model : Model) (node : ℕ) → is_visit model node ≡ true → IsI
 of_visit model node h = record { visits = and_both (is_visit model node) true h refl; distinct = refl; of_pairs = tt }
 
 -- an item that a visit has
-pub IsItem-visit : (model : Model) → IsWellFormed model → (node : ℕ) → is_visit model node ≡ true → (result : Option Item) → item_lists result ≡ items_at (pair_of model node) node → IfSome result (IsItem model)
+pub IsItem-visit : (model : Model) → IsWellFormed model → (node : ℕ) → is_visit model node ≡ true
+    → (result : Option Item) → item_lists result ≡ items_at (pair_of model node) node → IfSome result (IsItem model)
 IsItem-visit model well_formed node visit None e = tt
 IsItem-visit model well_formed node visit (Some item) e = by item (pair_of model node) refl e
   where
-    same_pair : (p d : ℕ) (pair : Pair) → (p ∷ d ∷ []) ∷ [] ≡ (pair.pickup ∷ pair.delivery ∷ []) ∷ [] → PickupAndDelivery pair.pickup pair.delivery ≡ PickupAndDelivery p d
+    same_pair : (p d : ℕ) (pair : Pair) → (p ∷ d ∷ []) ∷ [] ≡ (pair.pickup ∷ pair.delivery ∷ []) ∷ []
+        → PickupAndDelivery pair.pickup pair.delivery ≡ PickupAndDelivery p d
     same_pair p d pair e = cc
 
-    one : (item : Item) (pair : Pair) → IsItem model (PickupAndDelivery pair.pickup pair.delivery) → (b : Bool) → item_nodes item ∷ [] ≡ cond b ((pair.pickup ∷ pair.delivery ∷ []) ∷ []) [] → IsItem model item
+    one : (item : Item) (pair : Pair) → IsItem model (PickupAndDelivery pair.pickup pair.delivery) → (b : Bool)
+        → item_nodes item ∷ [] ≡ cond b ((pair.pickup ∷ pair.delivery ∷ []) ∷ []) [] → IsItem model item
     one (Visit n) pair h true e = absurd (cc)
     one (PickupAndDelivery p d) pair h true e = subst (IsItem model) (same_pair p d pair e) h
     one item pair h false e = absurd (cc)
@@ -105,4 +114,7 @@ so_far-item model n candidates before candidate is valid =
 pub so_far-none : (model : Model) (n : ℕ) (candidates : List Candidate) → AreSoFar model n candidates
     → [] ≡ (if is_visit model n then items_at (pair_of model n) n else []) → AreSoFar model (n + 1) candidates
 so_far-none model n candidates before is =
-    record { all = before.all ∙ sym (append-nil (items_below model n)) ∙ ap (λ ys. items_below model n ++ ys) is ∙ sym (items_below-more model n); each = before.each }
+    record {
+      all = before.all ∙ sym (append-nil (items_below model n)) ∙ ap (λ ys. items_below model n ++ ys) is ∙ sym (items_below-more model n);
+      each = before.each;
+    }

@@ -43,7 +43,8 @@ module _ {A C : Type 0} (entry : C → A) (key : A → List ℤ) (key_of : C →
   chosen-key false x y e f = f
 
   better-entry : (best : Option C) (y : C) (xs : List A) → IsBest best xs → key_of y ≡ key (entry y)
-      → (option_map entry (better key_of best y) ≡ better key (least_by key (filter test xs)) (entry y)) × IfSome (better key_of best y) (λ c. key_of c ≡ key (entry c))
+      → (option_map entry (better key_of best y) ≡ better key (least_by key (filter test xs)) (entry y))
+      × IfSome (better key_of best y) (λ c. key_of c ≡ key (entry c))
   better-entry None y xs before keyed = (ap (λ b. better key b (entry y)) before.least, keyed)
   better-entry (Some c) y xs before keyed =
       let less : is_lex_less (key_of y) (key_of c) ≡ is_lex_less (key (entry y)) (key (entry c)) = ap₂ is_lex_less keyed before.keyed in (
@@ -60,7 +61,8 @@ module _ {A C : Type 0} (entry : C → A) (key : A → List ℤ) (key_of : C →
       by false = before
 
   -- one entry more: the better one where it passes
-  pub IsBest-more : (best : Option C) (y : C) (xs : List A) (passes : Bool) → IsBest best xs → key_of y ≡ key (entry y) → passes ≡ test (entry y) → (passes ≡ true → Good y)
+  pub IsBest-more : (best : Option C) (y : C) (xs : List A) (passes : Bool) → IsBest best xs
+      → key_of y ≡ key (entry y) → passes ≡ test (entry y) → (passes ≡ true → Good y)
       → IsBest (cond passes (better key_of best y) best) (xs ++ entry y ∷ [])
   IsBest-more best y xs true before keyed tested good =
       let next = better-entry best y xs before keyed in
@@ -95,13 +97,16 @@ module _ {A C : Type 0} (entry : C → A) (key : A → List ℤ) (key_of : C →
     pub good : passes c ≡ true → Good c
 
   -- entries that are weighed in turn
-  pub IsBest-fold : (passes : C → Bool) (best : Option C) (cs : List C) (xs : List A) → IsBest entry key key_of test Good best xs → ((c : C) → In cs c → IsKnown passes c)
+  pub IsBest-fold : (passes : C → Bool) (best : Option C) (cs : List C) (xs : List A)
+      → IsBest entry key key_of test Good best xs → ((c : C) → In cs c → IsKnown passes c)
       → IsBest entry key key_of test Good (fold (λ best c. cond (passes c) (better key_of best c) best) best cs) (xs ++ map entry cs)
   IsBest-fold passes best [] xs before known = subst (IsBest entry key key_of test Good best) (sym (append-nil xs)) before
   IsBest-fold passes best (c ∷ cs) xs before known =
       let here = known c (inl refl) in
       let next = IsBest-more entry key key_of test Good best c xs (passes c) before here.keyed here.tested here.good in
-      subst (IsBest entry key key_of test Good (fold (λ best c. cond (passes c) (better key_of best c) best) (cond (passes c) (better key_of best c) best) cs)) (append_assoc xs (entry c ∷ []) (map entry cs))
+      subst
+      (IsBest entry key key_of test Good (fold (λ best c. cond (passes c) (better key_of best c) best) (cond (passes c) (better key_of best c) best) cs))
+      (append_assoc xs (entry c ∷ []) (map entry cs))
       (IsBest-fold passes (cond (passes c) (better key_of best c) best) cs (xs ++ entry c ∷ []) next (λ d there. known d (inr there)))
 
   none-pass : (ys : List A) → ((y : A) → In ys y → test y ≡ false) → filter test ys ≡ []
@@ -109,7 +114,9 @@ module _ {A C : Type 0} (entry : C → A) (key : A → List ℤ) (key_of : C →
   none-pass (y ∷ ys) h = ap₂ (λ b zs. cond b (y ∷ zs) zs) (h y (inl refl)) (none-pass ys (λ z there. h z (inr there)))
 
   -- entries that do not pass
-  pub IsBest-failed : (best : Option C) (xs ys : List A) → IsBest entry key key_of test Good best xs → ((y : A) → In ys y → test y ≡ false) → IsBest entry key key_of test Good best (xs ++ ys)
+  pub IsBest-failed : (best : Option C) (xs ys : List A) → IsBest entry key key_of test Good best xs
+      → ((y : A) → In ys y → test y ≡ false) → IsBest entry key key_of test Good best (xs ++ ys)
   IsBest-failed best xs ys before h =
-      let same : filter test (xs ++ ys) ≡ filter test xs = filter-append test xs ys ∙ ap (λ zs. filter test xs ++ zs) (none-pass ys h) ∙ append-nil (filter test xs) in
+      let same : filter test (xs ++ ys) ≡ filter test xs = filter-append test xs ys
+      ∙ ap (λ zs. filter test xs ++ zs) (none-pass ys h) ∙ append-nil (filter test xs) in
       record { least = before.least ∙ sym (ap (least_by key) same); keyed = before.keyed; good = before.good }

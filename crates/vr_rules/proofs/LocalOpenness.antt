@@ -18,11 +18,14 @@ use Rattle.vr_rules.specs.Openness.{OpennessIsLocal}
 -- ---- the lists
 
 -- what holds of the new list and of all old ones holds of each list
-pub each-route : (P : List ℕ → Type 0) (lists : List (List ℕ)) (v : ℕ) (list : List ℕ) → v < length lists → P list → ((w : ℕ) → P (route lists w)) → (w : ℕ) → P (route (with_route lists v list) w)
+pub each-route : (P : List ℕ → Type 0) (lists : List (List ℕ)) (v : ℕ) (list : List ℕ) → v < length lists
+    → P list → ((w : ℕ) → P (route lists w)) → (w : ℕ) → P (route (with_route lists v list) w)
 each-route P lists v list low h others w = by (w == v) refl
   where
     by : (b : Bool) → (w == v) ≡ b → P (route (with_route lists v list) w)
-    by true e = let same : v ≡ w = sym (eqb-true w v e) in subst (λ w. P (route (with_route lists v list) w)) same (subst P (sym (route_set_same lists v list low)) h)
+    by true e =
+        let same : v ≡ w = sym (eqb-true w v e) in
+        subst (λ w. P (route (with_route lists v list) w)) same (subst P (sym (route_set_same lists v list low)) h)
     by false e = subst P (sym (route_set_other lists v w list (λ same. differ (same_test w v same) e))) (others w)
       where
         differ : {b : Bool} → b ≡ true → b ≡ false → ⊥
@@ -39,11 +42,13 @@ open-local model lists v list low all = by (is_route_open model v list) refl
     count = length-set lists v list
 
     by : (b : Bool) → is_route_open model v list ≡ b → are_routes_open model (with_route lists v list) ≡ b
-    by true passes = range_list_all (λ w. is_route_open model w (route (with_route lists v list) w)) 0 (length (with_route lists v list)) (λ w start end. each w (w == v) refl (omega (arith, end, count)))
+    by true passes = range_list_all (λ w. is_route_open model w (route (with_route lists v list) w)) 0
+        (length (with_route lists v list)) (λ w start end. each w (w == v) refl (omega (arith, end, count)))
       where
         each : (w : ℕ) (b : Bool) → (w == v) ≡ b → w < length lists → is_route_open model w (route (with_route lists v list) w) ≡ true
         each w true e low_w = let same : v ≡ w = sym (eqb-true w v e) in
-            subst (λ w. is_route_open model w (route (with_route lists v list) w) ≡ true) same (ap (is_route_open model v) (route_set_same lists v list low) ∙ passes)
+            subst (λ w. is_route_open model w (route (with_route lists v list) w) ≡ true)
+            same (ap (is_route_open model v) (route_set_same lists v list low) ∙ passes)
         each w false e low_w = ap (is_route_open model w) (route_set_other lists v w list (λ same. differ (same_test w v same) e))
             ∙ list_all_range (λ w. is_route_open model w (route lists w)) 0 (length lists) all w (omega arith) (omega (arith, low_w))
           where
@@ -53,7 +58,9 @@ open-local model lists v list low all = by (is_route_open model v list) refl
             same_test : (a b : ℕ) → a ≡ b → (a == b) ≡ true
             same_test a b same = grind arith
     by false closed = fails _ (λ h. clash (is_route_open model v list)
-        (sym (ap (is_route_open model v) (route_set_same lists v list low)) ∙ list_all_range (λ w. is_route_open model w (route (with_route lists v list) w)) 0 (length (with_route lists v list)) h v (omega arith) (omega (arith, low, count)))
+        (sym (ap (is_route_open model v) (route_set_same lists v list low))
+        ∙ list_all_range (λ w. is_route_open model w (route (with_route lists v list) w)) 0
+        (length (with_route lists v list)) h v (omega arith) (omega (arith, low, count)))
         closed)
 
 -- ---- the active nodes
@@ -68,7 +75,8 @@ or-or true b c = refl
 or-or false b c = refl
 
 -- the nodes that were added are active beside those that were
-pub is_active-added : (lists : List (List ℕ)) (v : ℕ) (list nodes : List ℕ) (node : ℕ) → v < length lists → holds list node ≡ (holds nodes node || holds (route lists v) node)
+pub is_active-added : (lists : List (List ℕ)) (v : ℕ) (list nodes : List ℕ) (node : ℕ)
+    → v < length lists → holds list node ≡ (holds nodes node || holds (route lists v) node)
     → is_active (with_route lists v list) node ≡ (holds nodes node || is_active lists node)
 is_active-added [] v list nodes node low h = absurd (omega (arith, low))
 is_active-added (l ∷ ls) zero list nodes node low h = ap (λ b. b || is_active ls node) h ∙ or-or (holds nodes node) (holds l node) (is_active ls node)
@@ -80,7 +88,8 @@ is_active-added (l ∷ ls) (suc v) list nodes node low h =
 pub is_open-local : OpennessIsLocal
 unfolding is_open
 is_open-local model lists v list nodes are_open low added =
-    let same : (node : ℕ) → is_active (with_route lists v list) node ≡ is_active (nodes ∷ lists) node = λ node. is_active-added lists v list nodes node low (added node) in
+    let same : (node : ℕ) → is_active (with_route lists v list) node ≡ is_active (nodes ∷ lists) node = λ node. is_active-added lists
+    v list nodes node low (added node) in
     ap₂ (λ a b. a && b)
     (open-local model lists v list low (and_left (are_routes_open model lists) _ are_open))
     (ap (λ f. list_all f model.groups) (λ t group. nat_le (count_by (λ node. same node t) group.nodes) group.max))

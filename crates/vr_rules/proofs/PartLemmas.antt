@@ -27,7 +27,8 @@ use Rattle.vr_rules.proofs.SumLemmas.{visits-bound}
 
 module _ (model : Model) where
   module _ (lists : List (List ℕ)) where
-    dimensions-all : (f g : ℕ → ℤ) → ((d : ℕ) → d < length model.dimensions → f d ≡ g d) → total_by f (below (length model.dimensions)) ≡ total_by g (below (length model.dimensions))
+    dimensions-all : (f g : ℕ → ℤ) → ((d : ℕ) → d < length model.dimensions → f d ≡ g d)
+        → total_by f (below (length model.dimensions)) ≡ total_by g (below (length model.dimensions))
     dimensions-all f g h = go 0 (length model.dimensions) (omega arith)
       where
         go : (a n : ℕ) → a + n ≤ length model.dimensions → total_by f (range_with_len a n) ≡ total_by g (range_with_len a n)
@@ -46,11 +47,17 @@ module _ (model : Model) where
     -- the span part
     pub span-part : total_by (span_cost_in model lists) (below (length model.dimensions)) ≡ span_part model (assigned model lists)
     span-part = sym (
-        total_by-turned (λ v d. number_at (dimension_at model d).span_costs v *ℤ (end_at (assigned model lists) d v -ℤ start_at (assigned model lists) d v)) (used_vehicles lists) (below (length model.dimensions))
-        ∙ dimensions-all (λ d. total_by (λ v. number_at (dimension_at model d).span_costs v *ℤ (end_at (assigned model lists) d v -ℤ start_at (assigned model lists) d v)) (used_vehicles lists)) (span_cost_in model lists) (λ d low.
-        total_by-within (λ v. number_at (dimension_at model d).span_costs v *ℤ (end_at (assigned model lists) d v -ℤ start_at (assigned model lists) d v)) (λ v. span_with model d v (route lists v)) (used_vehicles lists)
-        (used-all (λ v. number_at (dimension_at model d).span_costs v *ℤ (end_at (assigned model lists) d v -ℤ start_at (assigned model lists) d v) ≡ span_with model d v (route lists v)) lists (λ v known some.
-        ap (λ plan. number_at (dimension_at model d).span_costs v *ℤ (cumul plan (suc (length (route lists v))) -ℤ cumul plan 0)) (plan-at model lists d v low known some)))))
+        total_by-turned (λ v d. number_at (dimension_at model d).span_costs v *ℤ (end_at (assigned model lists) d v -ℤ start_at (assigned model lists) d v))
+        (used_vehicles lists) (below (length model.dimensions))
+        ∙ dimensions-all
+        (λ d. total_by (λ v. number_at (dimension_at model d).span_costs v *ℤ (end_at (assigned model lists) d v -ℤ start_at (assigned model lists) d v))
+        (used_vehicles lists)) (span_cost_in model lists) (λ d low.
+        total_by-within (λ v. number_at (dimension_at model d).span_costs v *ℤ (end_at (assigned model lists) d v -ℤ start_at (assigned model lists) d v))
+        (λ v. span_with model d v (route lists v)) (used_vehicles lists)
+        (used-all (λ v. number_at (dimension_at model d).span_costs v *ℤ (end_at (assigned model lists) d v -ℤ start_at (assigned model lists) d v)
+        ≡ span_with model d v (route lists v)) lists (λ v known some.
+        ap (λ plan. number_at (dimension_at model d).span_costs v *ℤ (cumul plan (suc (length (route lists v))) -ℤ cumul plan 0))
+        (plan-at model lists d v low known some)))))
 
 -- ---- one dimension more
 
@@ -60,7 +67,8 @@ pub record AreBounded (sums : Sums) : Type 0 where
   pub soft_bound : sums.soft ≤ℤ pos (cumul_cost * 1200)
   pub span : IsAround (cumul_cost * 100) sums.span
 
-pub sums-bounded : (of : RoutesIn) (sums : Sums) → AreVehicleSums of.lookups.now.closed.model.now of.routes.now.lists of.d (length of.routes.now.lists) sums → AreBounded sums
+pub sums-bounded : (of : RoutesIn) (sums : Sums)
+    → AreVehicleSums of.lookups.now.closed.model.now of.routes.now.lists of.d (length of.routes.now.lists) sums → AreBounded sums
 sums-bounded of sums h =
     let few = are_lists-count of.lookups.now.closed.model.now of.routes.now.lists of.lists in
     let many = of.lookups.now.closed.well_formed.number_of_vehicles.at_most in
@@ -71,8 +79,10 @@ sums-bounded of sums h =
       span = record { low = omega (arith, ints, h.span_in_range.low, few, many); high = omega (arith, ints, h.span_in_range.high, few, many) };
     }
 
-pub AreTimed-more : (model : Model) (lists : List (List ℕ)) (n : ℕ) (before after : Timed) (sums : Sums) (cost : ℤ) → n < length model.dimensions → AreTimed model lists n before
-    → AreVehicleSums model lists n (length lists) sums → AreBounded sums → cost ≡ (dimension_at model n).global_span_cost *ℤ length_of sums.extent → IsAround cumul_cost cost
+pub AreTimed-more : (model : Model) (lists : List (List ℕ)) (n : ℕ) (before after : Timed) (sums : Sums) (cost : ℤ)
+    → n < length model.dimensions → AreTimed model lists n before
+    → AreVehicleSums model lists n (length lists) sums → AreBounded sums
+    → cost ≡ (dimension_at model n).global_span_cost *ℤ length_of sums.extent → IsAround cumul_cost cost
     → after.soft ≡ before.soft +ℤ sums.soft → after.span ≡ before.span +ℤ sums.span → after.global ≡ before.global +ℤ cost → AreTimed model lists (n + 1) after
 AreTimed-more model lists n before after sums cost low h are bounded is range soft span global =
     let paid = is ∙ global-cost model lists n low sums.extent are.extent in
@@ -82,6 +92,12 @@ AreTimed-more model lists n before after sums cost low h are bounded is range so
       global = omega (arith, ints, total_by-more (global_in model lists) n, h.global, paid, global);
       soft_not_negative = omega (arith, ints, soft, h.soft_not_negative, bounded.soft_not_negative);
       soft_bound = omega (arith, ints, soft, h.soft_bound, bounded.soft_bound);
-      span_in_range = record { low = omega (arith, ints, span, h.span_in_range.low, bounded.span.low); high = omega (arith, ints, span, h.span_in_range.high, bounded.span.high) };
-      global_in_range = record { low = omega (arith, ints, global, h.global_in_range.low, range.low); high = omega (arith, ints, global, h.global_in_range.high, range.high) };
+      span_in_range = record {
+        low = omega (arith, ints, span, h.span_in_range.low, bounded.span.low);
+        high = omega (arith, ints, span, h.span_in_range.high, bounded.span.high);
+      };
+      global_in_range = record {
+        low = omega (arith, ints, global, h.global_in_range.low, range.low);
+        high = omega (arith, ints, global, h.global_in_range.high, range.high);
+      };
     }

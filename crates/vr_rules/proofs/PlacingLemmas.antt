@@ -23,7 +23,8 @@ use Rattle.vr_rules.specs.declared.items.Item.{Item}
 use Rattle.vr_rules.specs.declared.items.Item.TheVariants.{Visit, PickupAndDelivery}
 use Rattle.vr_rules.specs.Placing.{item_nodes, fits_beside, has_room, is_taken, AreBuilt, AreMarks, IsItem}
 use Rattle.vr_model.proofs.tables.Tests.{fails_not, or-false_left, or-false_right, all-from_list_all}
-use Rattle.vr_model.proofs.routes.Lists.{visit_below, is_active-concat, is_active-none, route-none, are_lists-count, is_distinct-left, is_distinct-right, list_all-route, is_distinct-route}
+use Rattle.vr_model.proofs.routes.Lists.{visit_below, is_active-concat, is_active-none, route-none, are_lists-count, is_distinct-left, is_distinct-right}
+use Rattle.vr_model.proofs.routes.Lists.{list_all-route, is_distinct-route}
 use Rattle.vr_rules.proofs.LocalOpenness.{is_active-added}
 
 -- ---- tests that agree on the entries of a list
@@ -47,17 +48,22 @@ fits_beside-marks model well_formed lists marks item are =
     list_all-within (has_room marks item) (fits_group (item_nodes item ∷ lists)) model.groups (λ g d low.
     let group = get_or model.groups g d in
     ap (λ n. nat_le n group.max) (count_by-within (is_taken marks item) (is_active (item_nodes item ∷ lists)) group.nodes (λ k node node_low.
-    ap (λ b. holds (item_nodes item) (get_or group.nodes k node) || b) (are.each (get_or group.nodes k node) false (visit_below model (get_or group.nodes k node) ((well_formed.each_group g d low).each_node_is_visit k node node_low))))))
+    ap (λ b. holds (item_nodes item) (get_or group.nodes k node) || b)
+    (are.each (get_or group.nodes k node) false
+    (visit_below model (get_or group.nodes k node) ((well_formed.each_group g d low).each_node_is_visit k node node_low))))))
 
 -- the marks of the nodes of a list that was changed
-pub AreMarks-added : (model : Model) (lists : List (List ℕ)) (v : ℕ) (list nodes : List ℕ) (marks marked : List Bool) → AreMarks model.nodes lists marks → v < length lists
+pub AreMarks-added : (model : Model) (lists : List (List ℕ)) (v : ℕ) (list nodes : List ℕ) (marks marked : List Bool)
+    → AreMarks model.nodes lists marks → v < length lists
     → ((node : ℕ) → holds list node ≡ (holds nodes node || holds (route lists v) node))
-    → length marked ≡ length marks → ((node : ℕ) (d : Bool) → node < length marks → slice_index_or marked node d ≡ (holds nodes node || slice_index_or marks node d))
+    → length marked ≡ length marks
+    → ((node : ℕ) (d : Bool) → node < length marks → slice_index_or marked node d ≡ (holds nodes node || slice_index_or marks node d))
     → AreMarks model.nodes (with_route lists v list) marked
 AreMarks-added model lists v list nodes marks marked are low added count each = record {
   one_of_each = count ∙ are.one_of_each;
   each = λ node d node_low.
-      each node d (omega (arith, node_low, are.one_of_each)) ∙ ap (λ b. holds nodes node || b) (are.each node d node_low) ∙ sym (is_active-added lists v list nodes node low (added node));
+      each node d (omega (arith, node_low, are.one_of_each)) ∙ ap (λ b. holds nodes node || b) (are.each node d node_low)
+      ∙ sym (is_active-added lists v list nodes node low (added node));
 }
 
 -- ---- inactive nodes
@@ -92,15 +98,19 @@ delivery-absent model v [] k pair low is passes absent = refl
 delivery-absent model v (x ∷ xs) k pair low is passes absent =
     let list : List ℕ = x ∷ xs in
     let all = and_left (list_all (serves_pair list) model.pairs) _ (and_right _ _ passes) in
-    let served : serves_pair list pair ≡ true = subst (λ p. serves_pair list p ≡ true) (is pair) (all-from_list_all (serves_pair list) model.pairs all k pair low) in
-    serves-none (holds list pair.pickup) (holds list pair.delivery) (comes_before list pair.pickup pair.delivery) served absent (comes_before-absent list pair.pickup pair.delivery absent)
+    let served : serves_pair list pair ≡ true = subst (λ p. serves_pair list p ≡ true)
+    (is pair) (all-from_list_all (serves_pair list) model.pairs all k pair low) in
+    serves-none (holds list pair.pickup) (holds list pair.delivery) (comes_before list pair.pickup pair.delivery)
+    served absent (comes_before-absent list pair.pickup pair.delivery absent)
 
 pub open-route : (model : Model) (lists : List (List ℕ)) (v : ℕ) → is_open model lists ≡ true → v < length lists → is_route_open model v (route lists v) ≡ true
 unfolding is_open
-open-route model lists v h low = list_all_range (λ v. is_route_open model v (route lists v)) 0 (length lists) (and_left _ _ h) v (omega arith) (omega (arith, low))
+open-route model lists v h low =
+    list_all_range (λ v. is_route_open model v (route lists v)) 0 (length lists) (and_left _ _ h) v (omega arith) (omega (arith, low))
 
 -- where the first node of an item is inactive, all its nodes are
-pub item-inactive : (model : Model) (lists : List (List ℕ)) (item : Item) → IsItem model item → is_open model lists ≡ true → is_active lists (first_node (item_nodes item)) ≡ false
+pub item-inactive : (model : Model) (lists : List (List ℕ)) (item : Item) → IsItem model item
+    → is_open model lists ≡ true → is_active lists (first_node (item_nodes item)) ≡ false
     → (node : ℕ) → holds (item_nodes item) node ≡ true → is_active lists node ≡ false
 item-inactive model lists (Visit n) valid h first node there =
     subst (λ m. is_active lists m ≡ false) (sym (eqb-true node n (either (node == n) there))) first
@@ -114,7 +124,9 @@ item-inactive model lists (PickupAndDelivery p d) valid h first node there = by 
     pair = record { pickup = p; delivery = d }
 
     second : is_active lists d ≡ false
-    second = inactive-everywhere lists d (λ v low. delivery-absent model v (route lists v) valid.of_pairs.0 pair valid.of_pairs.1 valid.of_pairs.2 (open-route model lists v h low) (inactive-route lists p v first))
+    second = inactive-everywhere lists d
+        (λ v low. delivery-absent model v (route lists v) valid.of_pairs.0 pair valid.of_pairs.1
+        valid.of_pairs.2 (open-route model lists v h low) (inactive-route lists p v first))
 
     last : (a b : Bool) → a ≡ false → (a || (b || false)) ≡ true → b ≡ true
     last a true e f = refl
@@ -127,12 +139,15 @@ item-inactive model lists (PickupAndDelivery p d) valid h first node there = by 
 
 -- ---- distinct nodes
 
-pub is_distinct-both : (xs ys : List ℕ) → is_distinct xs ≡ true → is_distinct ys ≡ true → ((x : ℕ) → holds xs x ≡ true → holds ys x ≡ false) → is_distinct (xs ++ ys) ≡ true
+pub is_distinct-both : (xs ys : List ℕ) → is_distinct xs ≡ true → is_distinct ys ≡ true
+    → ((x : ℕ) → holds xs x ≡ true → holds ys x ≡ false) → is_distinct (xs ++ ys) ≡ true
 is_distinct-both [] ys d e apart = e
 is_distinct-both (x ∷ xs) ys d e apart =
     let here : holds (xs ++ ys) x ≡ false =
-    list_any-append (λ y. x == y) xs ys ∙ ap₂ (λ a b. a || b) (fails_not (holds xs x) (and_left (not (holds xs x)) (is_distinct xs) d)) (apart x (ap (λ b. b || holds xs x) (eq-eqb x x refl))) in
-    ap₂ (λ a b. not a && b) here (is_distinct-both xs ys (and_right (not (holds xs x)) (is_distinct xs) d) e (λ y h. apart y (or_second (y == x) (holds xs y) h)))
+    list_any-append (λ y. x == y) xs ys ∙ ap₂ (λ a b. a || b) (fails_not (holds xs x) (and_left (not (holds xs x)) (is_distinct xs) d))
+    (apart x (ap (λ b. b || holds xs x) (eq-eqb x x refl))) in
+    ap₂ (λ a b. not a && b) here
+    (is_distinct-both xs ys (and_right (not (holds xs x)) (is_distinct xs) d) e (λ y h. apart y (or_second (y == x) (holds xs y) h)))
   where
     or_second : (a b : Bool) → b ≡ true → (a || b) ≡ true
     or_second true b h = refl
@@ -140,7 +155,8 @@ is_distinct-both (x ∷ xs) ys d e apart =
 
 pub is_distinct-apart : (xs ys : List ℕ) → is_distinct (xs ++ ys) ≡ true → (x : ℕ) → holds xs x ≡ true → holds ys x ≡ false
 is_distinct-apart [] ys d x h = absurd (clash false h refl)
-is_distinct-apart (y ∷ xs) ys d x h = by (x == y) refl (λ later. is_distinct-apart xs ys (and_right (not (holds (xs ++ ys) y)) (is_distinct (xs ++ ys)) d) x later)
+is_distinct-apart (y ∷ xs) ys d x h =
+    by (x == y) refl (λ later. is_distinct-apart xs ys (and_right (not (holds (xs ++ ys) y)) (is_distinct (xs ++ ys)) d) x later)
   where
     nowhere : holds (xs ++ ys) y ≡ false
     nowhere = fails_not (holds (xs ++ ys) y) (and_left (not (holds (xs ++ ys) y)) (is_distinct (xs ++ ys)) d)
@@ -151,7 +167,8 @@ is_distinct-apart (y ∷ xs) ys d x h = by (x == y) refl (λ later. is_distinct-
     second false false e f = f
 
     by : (b : Bool) → (x == y) ≡ b → (holds xs x ≡ true → holds ys x ≡ false) → holds ys x ≡ false
-    by true e later = subst (λ z. holds ys z ≡ false) (sym (eqb-true x y e)) (or-false_right (holds xs y) (holds ys y) (sym (list_any-append (λ z. y == z) xs ys) ∙ nowhere))
+    by true e later =
+        subst (λ z. holds ys z ≡ false) (sym (eqb-true x y e)) (or-false_right (holds xs y) (holds ys y) (sym (list_any-append (λ z. y == z) xs ys) ∙ nowhere))
     by false e later = later (second (x == y) (holds xs x) e h)
 
 -- ---- lists with nodes added to one of them
@@ -164,13 +181,16 @@ pub record IsAdded (model : Model) (lists : List (List ℕ)) (v : ℕ) (nodes li
   pub distinct : is_distinct list ≡ true
   pub inactive : (node : ℕ) → holds nodes node ≡ true → is_active lists node ≡ false
 
-visits-added : (p : ℕ → Bool) (lists : List (List ℕ)) (v : ℕ) (list : List ℕ) → list_all p (concat lists) ≡ true → list_all p list ≡ true → list_all p (concat (with_route lists v list)) ≡ true
+visits-added : (p : ℕ → Bool) (lists : List (List ℕ)) (v : ℕ) (list : List ℕ) → list_all p (concat lists) ≡ true
+    → list_all p list ≡ true → list_all p (concat (with_route lists v list)) ≡ true
 visits-added p [] v list h g = h
-visits-added p (l ∷ ls) zero list h g = list_all-append p list (concat ls) ∙ ap₂ (λ a b. a && b) g (and_right (list_all p l) (list_all p (concat ls)) (sym (list_all-append p l (concat ls)) ∙ h))
+visits-added p (l ∷ ls) zero list h g = list_all-append p list (concat ls)
+    ∙ ap₂ (λ a b. a && b) g (and_right (list_all p l) (list_all p (concat ls)) (sym (list_all-append p l (concat ls)) ∙ h))
 visits-added p (l ∷ ls) (suc v) list h g =
     let both = sym (list_all-append p l (concat ls)) ∙ h in
     list_all-append p l (concat (with_route ls v list))
-    ∙ ap₂ (λ a b. a && b) (and_left (list_all p l) (list_all p (concat ls)) both) (visits-added p ls v list (and_right (list_all p l) (list_all p (concat ls)) both) g)
+    ∙ ap₂ (λ a b. a && b) (and_left (list_all p l) (list_all p (concat ls)) both)
+    (visits-added p ls v list (and_right (list_all p l) (list_all p (concat ls)) both) g)
 
 distinct-added : (lists : List (List ℕ)) (v : ℕ) (nodes list : List ℕ) → v < length lists → is_distinct (concat lists) ≡ true → is_distinct list ≡ true
     → ((node : ℕ) → holds list node ≡ (holds nodes node || holds (route lists v) node)) → ((node : ℕ) → holds nodes node ≡ true → is_active lists node ≡ false)
@@ -184,21 +204,26 @@ distinct-added (l ∷ ls) zero nodes list low d e added inactive =
     by false x f h = is_distinct-apart l (concat ls) d x (sym (ap (λ b. b || holds l x) f) ∙ h)
 distinct-added (l ∷ ls) (suc v) nodes list low d e added inactive =
     is_distinct-both l (concat (with_route ls v list)) (is_distinct-left l (concat ls) d)
-    (distinct-added ls v nodes list (omega (arith, low)) (is_distinct-right l (concat ls) d) e added (λ node h. or-false_right (holds l node) (is_active ls node) (inactive node h)))
+    (distinct-added ls v nodes list (omega (arith, low)) (is_distinct-right l (concat ls) d)
+    e added (λ node h. or-false_right (holds l node) (is_active ls node) (inactive node h)))
     (λ x h. sym (is_active-concat (with_route ls v list) x) ∙ is_active-added ls v list nodes x (omega (arith, low)) (added x)
-    ∙ ap₂ (λ a b. a || b) (fails (holds nodes x) (λ there. clash (holds l x) h (or-false_left (holds l x) (is_active ls x) (inactive x there)))) (is_active-concat ls x ∙ is_distinct-apart l (concat ls) d x h))
+    ∙ ap₂ (λ a b. a || b) (fails (holds nodes x) (λ there. clash (holds l x) h (or-false_left (holds l x) (is_active ls x) (inactive x there))))
+    (is_active-concat ls x ∙ is_distinct-apart l (concat ls) d x h))
 
 -- the lists stay lists of the model
-pub AreBuilt-added : (model : Model) (lists : List (List ℕ)) (v : ℕ) (nodes list : List ℕ) → AreBuilt model lists → IsAdded model lists v nodes list → is_open model (with_route lists v list) ≡ true
+pub AreBuilt-added : (model : Model) (lists : List (List ℕ)) (v : ℕ) (nodes list : List ℕ)
+    → AreBuilt model lists → IsAdded model lists v nodes list → is_open model (with_route lists v list) ≡ true
     → AreBuilt model (with_route lists v list)
 AreBuilt-added model lists v nodes list built added passes =
     let parts = and_right (length lists == length model.vehicles) _ built.are_lists in
     let count : length (with_route lists v list) ≡ length model.vehicles = length-set lists v list ∙ are_lists-count model lists built.are_lists in
     record {
-      are_lists = and_both (length (with_route lists v list) == length model.vehicles) _ (eq-eqb (length (with_route lists v list)) (length model.vehicles) count)
+      are_lists =
+          and_both (length (with_route lists v list) == length model.vehicles) _ (eq-eqb (length (with_route lists v list)) (length model.vehicles) count)
           (and_both (list_all (is_visit model) (concat (with_route lists v list))) _
           (visits-added (is_visit model) lists v list (and_left (list_all (is_visit model) (concat lists)) _ parts) added.visits)
-          (distinct-added lists v nodes list added.vehicle (and_right (list_all (is_visit model) (concat lists)) _ parts) added.distinct added.nodes_are added.inactive));
+          (distinct-added lists v nodes list added.vehicle (and_right (list_all (is_visit model) (concat lists)) _ parts)
+          added.distinct added.nodes_are added.inactive));
       are_open = passes;
     }
 
@@ -223,20 +248,26 @@ AreBuilt-empty model =
       are_lists = and_both (length (empty_lists model) == n) _ (eq-eqb (length (empty_lists model)) n (length-replicate {A = List ℕ} n []))
           (ap (λ xs. list_all (is_visit model) xs && is_distinct xs) (concat-none n));
       are_open = and_both (list_all (λ v. is_route_open model v (route (empty_lists model) v)) (vehicles (empty_lists model))) _
-          (range_list_all (λ v. is_route_open model v (route (empty_lists model) v)) 0 (length (empty_lists model)) (λ v start end. ap (is_route_open model v) (route-none n v)))
+          (range_list_all (λ v. is_route_open model v (route (empty_lists model) v)) 0
+          (length (empty_lists model)) (λ v start end. ap (is_route_open model v) (route-none n v)))
           (every model.groups);
     }
   where
     every : (groups : List Group) → list_all (fits_group (empty_lists model)) groups ≡ true
     every [] = refl
-    every (g ∷ gs) = and_both (fits_group (empty_lists model) g) _ (within-none (count_by (is_active (empty_lists model)) g.nodes) g.max (sym (length-filter (is_active (empty_lists model)) g.nodes) ∙ ap length (filter-none g.nodes (is_active (empty_lists model)) (is_active-none (length model.vehicles))))) (every gs)
+    every (g ∷ gs) = and_both (fits_group (empty_lists model) g) _
+        (within-none (count_by (is_active (empty_lists model)) g.nodes)
+        g.max (sym (length-filter (is_active (empty_lists model)) g.nodes)
+        ∙ ap length (filter-none g.nodes (is_active (empty_lists model)) (is_active-none (length model.vehicles))))) (every gs)
 
 -- the lists of lists of a model have distinct visits
 pub built-visits : (model : Model) (lists : List (List ℕ)) (v : ℕ) → AreBuilt model lists → list_all (is_visit model) (route lists v) ≡ true
-built-visits model lists v built = list_all-route (is_visit model) lists v (and_left (list_all (is_visit model) (concat lists)) _ (and_right (length lists == length model.vehicles) _ built.are_lists))
+built-visits model lists v built = list_all-route (is_visit model) lists v
+    (and_left (list_all (is_visit model) (concat lists)) _ (and_right (length lists == length model.vehicles) _ built.are_lists))
 
 pub built-distinct : (model : Model) (lists : List (List ℕ)) (v : ℕ) → AreBuilt model lists → is_distinct (route lists v) ≡ true
-built-distinct model lists v built = is_distinct-route lists v (and_right (list_all (is_visit model) (concat lists)) _ (and_right (length lists == length model.vehicles) _ built.are_lists))
+built-distinct model lists v built =
+    is_distinct-route lists v (and_right (list_all (is_visit model) (concat lists)) _ (and_right (length lists == length model.vehicles) _ built.are_lists))
 
 pub built-count : (model : Model) (lists : List (List ℕ)) → AreBuilt model lists → length lists ≡ length model.vehicles
 built-count model lists built = are_lists-count model lists built.are_lists
@@ -254,14 +285,18 @@ AreMarks-empty model marks e = record {
     at (suc n) (suc node) d low = at n node d (omega (arith, low))
 
 -- the marks of one node more
-pub AreMarks-more : (n : ℕ) (lists : List (List ℕ)) (marks : List Bool) (mark : Bool) → AreMarks n lists marks → mark ≡ is_active lists n → AreMarks (n + 1) lists (marks ++ mark ∷ [])
+pub AreMarks-more : (n : ℕ) (lists : List (List ℕ)) (marks : List Bool) (mark : Bool)
+    → AreMarks n lists marks → mark ≡ is_active lists n → AreMarks (n + 1) lists (marks ++ mark ∷ [])
 AreMarks-more n lists marks mark are is = record {
   one_of_each = (let a = length-append marks (mark ∷ []) in let m = are.one_of_each in omega (arith, a, m));
   each = λ node d low. by node d low (nat_lt node n) refl;
 }
   where
     by : (node : ℕ) (d : Bool) → node < n + 1 → (b : Bool) → nat_lt node n ≡ b → slice_index_or (marks ++ mark ∷ []) node d ≡ is_active lists node
-    by node d low true e = get_or_append_left marks (mark ∷ []) d node (let m = are.one_of_each in let l : node < n = grind (arith, nat_tests, e) in omega (arith, m, l)) ∙ are.each node d (grind (arith, nat_tests, e))
+    by node d low true e =
+        get_or_append_left marks (mark ∷ []) d node (let m = are.one_of_each in let l : node < n = grind (arith, nat_tests, e) in omega (arith, m, l))
+        ∙ are.each node d (grind (arith, nat_tests, e))
     by node d low false e =
         let last : n ≡ node = grind (arith, nat_tests, e, low) in
-        subst (λ k. slice_index_or (marks ++ mark ∷ []) k d ≡ is_active lists k) last (ap (λ k. slice_index_or (marks ++ mark ∷ []) k d) (sym are.one_of_each) ∙ get_or-append_seam marks mark [] d ∙ is)
+        subst (λ k. slice_index_or (marks ++ mark ∷ []) k d ≡ is_active lists k) last
+        (ap (λ k. slice_index_or (marks ++ mark ∷ []) k d) (sym are.one_of_each) ∙ get_or-append_seam marks mark [] d ∙ is)

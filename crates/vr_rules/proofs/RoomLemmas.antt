@@ -68,11 +68,13 @@ class_free model node g is past =
     sym (ap (λ b. cond b (cond (must_fill model node) 1 2) 0) none)
 
 -- a node of a group
-pub class_in : (model : Model) → IsWellFormed model → (node g : ℕ) (group : Group) (free : Bool) → g ≡ group_number model node → g < length model.groups → group_at model g ≡ group
+pub class_in : (model : Model) → IsWellFormed model → (node g : ℕ) (group : Group) (free : Bool)
+    → g ≡ group_number model node → g < length model.groups → group_at model g ≡ group
     → free ≡ not (is_penalty_given group.penalty) → cond free 1 2 ≡ node_class model node
 class_in model well_formed node g group free is low at free_is =
     let within : group_number model node < length model.groups = omega (arith, is, low) in
-    let grouped : is_grouped model node ≡ true = any_number (λ (group : Group). holds group.nodes node) model.groups ∙ within_test (group_number model node) (length model.groups) within in
+    let grouped : is_grouped model node ≡ true = any_number (λ (group : Group). holds group.nodes node) model.groups
+    ∙ within_test (group_number model node) (length model.groups) within in
     let needed : must_fill model node ≡ free =
     needed-number model.groups node (times_of_distinct (each model.groups nodes_in) well_formed.no_node_in_groups_twice node) within
     ∙ ap (λ k. not (is_penalty_given (group_at model k).penalty)) (sym is) ∙ ap (λ (q : Group). not (is_penalty_given q.penalty)) at ∙ sym free_is in
@@ -81,7 +83,8 @@ class_in model well_formed node g group free is low at free_is =
 -- ---- room
 
 -- of the group of a node
-pub room_in : (model : Model) (marks : List Bool) (item : Item) (node g : ℕ) (group : Group) → g ≡ group_number model node → g < length model.groups → group_at model g ≡ group
+pub room_in : (model : Model) (marks : List Bool) (item : Item) (node g : ℕ) (group : Group)
+    → g ≡ group_number model node → g < length model.groups → group_at model g ≡ group
     → has_room marks item group ≡ has_room_at model marks item node
 room_in model marks item node g group is low at =
     ap (has_room marks item) (sym at)
@@ -89,14 +92,16 @@ room_in model marks item node g group is low at =
     ∙ ap (λ k. nat_le (length model.groups) k || has_room marks item (group_at model k)) is
 
 -- of a node in none
-pub room_free : (model : Model) (marks : List Bool) (item : Item) (node g : ℕ) → g ≡ group_number model node → length model.groups ≤ g → true ≡ has_room_at model marks item node
+pub room_free : (model : Model) (marks : List Bool) (item : Item) (node g : ℕ)
+    → g ≡ group_number model node → length model.groups ≤ g → true ≡ has_room_at model marks item node
 room_free model marks item node g is past =
     sym (ap (λ b. b || has_room marks item (group_at model g)) (reached (length model.groups) g past))
     ∙ ap (λ k. nat_le (length model.groups) k || has_room marks item (group_at model k)) is
 
 module _ (model : Model) (well_formed : IsWellFormed model) (marks : List Bool) (item : Item) where
   -- the room at a node is that of a group that it stands in
-  at_number : (g : ℕ) → g < length model.groups → (y : ℕ) → IsTrue (holds (group_at model g).nodes y) → has_room_at model marks item y ≡ has_room marks item (group_at model g)
+  at_number : (g : ℕ) → g < length model.groups → (y : ℕ) → IsTrue (holds (group_at model g).nodes y)
+      → has_room_at model marks item y ≡ has_room marks item (group_at model g)
   at_number g low y held =
       let few = times_of_distinct (each model.groups nodes_in) well_formed.no_node_in_groups_twice y in
       sym (room_in model marks item y g (group_at model g) (sym (number_at model.groups g y few low held)) low refl)
@@ -124,7 +129,8 @@ module _ (model : Model) (well_formed : IsWellFormed model) (marks : List Bool) 
       by : (b : Bool) → has_room marks item group ≡ b → b ≡ true
       by true e = refl
       by false e =
-          let same : count_by (is_taken marks item) group.nodes ≡ count_by (is_marked marks) group.nodes = count_by-within (is_taken marks item) (is_marked marks) group.nodes
+          let same : count_by (is_taken marks item) group.nodes ≡ count_by (is_marked marks) group.nodes = count_by-within (is_taken marks item)
+          (is_marked marks) group.nodes
           (λ i d within. elim (apart i d within) [
             | inl other ↦ ap (λ b. b || is_marked marks (get_or group.nodes i d)) other
             | inr room ↦ absurd (clash (has_room marks item group) room e)
@@ -135,19 +141,23 @@ module _ (model : Model) (well_formed : IsWellFormed model) (marks : List Bool) 
   -- and so the other way round
   at_node : list_all (has_room marks item) model.groups ≡ true → (y : ℕ) → has_room_at model marks item y ≡ true
   at_node all y = elim (cases_lt (group_number model y) (length model.groups)) [
-    | inl low ↦ ap (λ b. nat_le (length model.groups) (group_number model y) || b) (all-from_list_all (has_room marks item) model.groups all (group_number model y) no_group low)
+    | inl low ↦ ap (λ b. nat_le (length model.groups) (group_number model y) || b)
+        (all-from_list_all (has_room marks item) model.groups all (group_number model y) no_group low)
         ∙ or-true (nat_le (length model.groups) (group_number model y))
     | inr past ↦ ap (λ b. b || has_room marks item (group_at model (group_number model y))) (reached (length model.groups) (group_number model y) past)
   ]
 
-  pub room_by_nodes : list_all (fits_by marks) model.groups ≡ true → list_all (has_room_at model marks item) (item_nodes item) ≡ list_all (has_room marks item) model.groups
+  pub room_by_nodes : list_all (fits_by marks) model.groups ≡ true
+      → list_all (has_room_at model marks item) (item_nodes item) ≡ list_all (has_room marks item) model.groups
   room_by_nodes fit = same_tests (list_all (has_room_at model marks item) (item_nodes item)) (list_all (has_room marks item) model.groups)
-      (λ nodes. list_all-within (has_room marks item) (λ q. true) model.groups (λ g d low. ap (has_room marks item) (get_or_default model.groups g d no_group low) ∙ in_each fit nodes g low)
+      (λ nodes. list_all-within (has_room marks item) (λ q. true) model.groups
+      (λ g d low. ap (has_room marks item) (get_or_default model.groups g d no_group low) ∙ in_each fit nodes g low)
       ∙ list_all-true (λ (q : Group). true) (λ q. refl) model.groups)
       (λ all. list_all-true (has_room_at model marks item) (at_node all) (item_nodes item))
 
   -- the groups that have room for an item have room for what is marked with it
-  pub fits_marked : (marked : List Bool) → length marks ≡ model.nodes → AreMarkedToo marks (item_nodes item) marked → list_all (has_room marks item) model.groups ≡ true
+  pub fits_marked : (marked : List Bool) → length marks ≡ model.nodes
+      → AreMarkedToo marks (item_nodes item) marked → list_all (has_room marks item) model.groups ≡ true
       → list_all (fits_by marked) model.groups ≡ true
   fits_marked marked long each_is all =
       list_all-within (fits_by marked) (has_room marks item) model.groups (λ g d low.

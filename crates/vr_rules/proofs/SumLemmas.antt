@@ -1,5 +1,6 @@
 -- What chosen schedules come to, one vehicle further.
-use Rattle.std.proofs.Common.{◌≡◌, ◌∙◌, ◌<◌, ◌≤◌, ◌+◌, ◌*◌, ◌++◌, ℕ, List, [], ◌∷◌, true, false, length, take, drop, refl, ap, ap₂, sym, subst, arith, Option, Some, None}
+use Rattle.std.proofs.Common.{◌≡◌, ◌∙◌, ◌<◌, ◌≤◌, ◌+◌, ◌*◌, ◌++◌, ℕ, List, [], ◌∷◌, true, false, length, take, drop, refl, ap, ap₂, sym, subst, arith, Option}
+use Rattle.std.proofs.Common.{Some, None}
 use Rattle.std.specs.Prelude.{ℤ, pos, ◌+ℤ◌, ◌-ℤ◌, ◌*ℤ◌, ◌≤ℤ◌, ◌&&◌, not, IfSome, IsSome, MatchOption}
 use Rattle.std.specs.Ordering.{int_eq}
 use Rattle.std.specs.List.{concat, list_all}
@@ -41,7 +42,8 @@ pays_nothing_too dimension v list none =
 
 -- ---- how many visits there are
 
-visits-more : (lists : List (List ℕ)) (n : ℕ) → n < length lists → length (concat (take (n + 1) lists)) ≡ length (concat (take n lists)) + length (route lists n)
+visits-more : (lists : List (List ℕ)) (n : ℕ) → n < length lists
+    → length (concat (take (n + 1) lists)) ≡ length (concat (take n lists)) + length (route lists n)
 visits-more lists n low =
     ap (λ ls. length (concat ls)) (take_more lists n [] low)
     ∙ ap length (concat-append (take n lists) (route lists n ∷ []))
@@ -52,7 +54,8 @@ visits-more lists n low =
 pub visits-bound : (model : Model) (lists : List (List ℕ)) (n : ℕ) → are_lists model lists ≡ true → length (concat (take n lists)) ≤ model.nodes
 visits-bound model lists n are =
     let parts = and_right _ (list_all (is_visit model) (concat lists) && is_distinct (concat lists)) are in
-    let few = visits-few model (concat lists) (and_left (list_all (is_visit model) (concat lists)) _ parts) (and_right (list_all (is_visit model) (concat lists)) _ parts) in
+    let few = visits-few model (concat lists) (and_left (list_all (is_visit model) (concat lists)) _ parts)
+    (and_right (list_all (is_visit model) (concat lists)) _ parts) in
     let whole = ap (λ ls. length (concat ls)) (take-append-drop n lists) in
     let split = ap length (concat-append (take n lists) (drop n lists)) in
     let both = length-append (concat (take n lists)) (concat (drop n lists)) in
@@ -91,7 +94,8 @@ module _ (model : Model) (lists : List (List ℕ)) (d n : ℕ) where
         let a = ap (total_by f) push ∙ total_by-push f (used_below lists n) n in
         let b = ap (total_by g) push ∙ total_by-push g (used_below lists n) n in
         let x : f n ≡ pos 0 = nothing.alone.soft _ in
-        let y : g n ≡ pos 0 = times-none (number_at (dimension_at model d).span_costs n) (last_with model d n (route lists n) -ℤ start_with model d n (route lists n)) nothing.alone.span in
+        let y : g n ≡ pos 0 = times-none (number_at (dimension_at model d).span_costs n)
+        (last_with model d n (route lists n) -ℤ start_with model d n (route lists n)) nothing.alone.span in
         record {
           soft = omega (arith, ints, h.soft, a, x);
           span = omega (arith, ints, h.span, b, y);
@@ -103,7 +107,8 @@ module _ (model : Model) (lists : List (List ℕ)) (d n : ℕ) where
         }
 
     -- it is used, and its schedule is looked at
-    pub AreSums-paid : (timing : Timing) (after : Sums) → is_empty (route lists n) ≡ false → IsTiming model d n (route lists n) timing → IsTimingOf (length (route lists n) + 2) timing
+    pub AreSums-paid : (timing : Timing) (after : Sums) → is_empty (route lists n) ≡ false
+        → IsTiming model d n (route lists n) timing → IsTimingOf (length (route lists n) + 2) timing
         → after.soft ≡ sums.soft +ℤ timing.soft → after.span ≡ sums.span +ℤ number_at (dimension_at model d).span_costs n *ℤ (timing.last -ℤ timing.start)
         → IsAround cumul_cost (number_at (dimension_at model d).span_costs n *ℤ (timing.last -ℤ timing.start))
         → (extent : Extent) → after.extent ≡ Some extent → IsWider sums.extent timing extent → AreVehicleSums model lists d (n + 1) after
@@ -123,12 +128,15 @@ module _ (model : Model) (lists : List (List ℕ)) (d n : ℕ) where
               (subst (λ used. IsExtent model lists d used extent) (sym push) (extent-wider model lists d n sums.extent timing extent (h.extent pays) is wider));
           soft_not_negative = omega (arith, ints, soft, h.soft_not_negative, range.not_negative);
           soft_bound = omega (arith, ints, soft, h.soft_bound, range.bound, visits-more lists n low);
-          span_in_range = record { low = omega (arith, ints, span, h.span_in_range.low, around.low); high = omega (arith, ints, span, h.span_in_range.high, around.high) };
-          extent_in_range = subst (λ o. IfSome o IsExtentInRange) (sym there) (extent-range sums.extent timing extent (length (route lists n) + 2) h.extent_in_range range wider);
+          span_in_range =
+              record { low = omega (arith, ints, span, h.span_in_range.low, around.low); high = omega (arith, ints, span, h.span_in_range.high, around.high) };
+          extent_in_range = subst (λ o. IfSome o IsExtentInRange) (sym there)
+              (extent-range sums.extent timing extent (length (route lists n) + 2) h.extent_in_range range wider);
         }
 
     -- the same, where only that an extent is there is known
-    pub AreSums-taken : (timing : Timing) (after : Sums) → is_empty (route lists n) ≡ false → IsTiming model d n (route lists n) timing → IsTimingOf (length (route lists n) + 2) timing
+    pub AreSums-taken : (timing : Timing) (after : Sums) → is_empty (route lists n) ≡ false
+        → IsTiming model d n (route lists n) timing → IsTimingOf (length (route lists n) + 2) timing
         → after.soft ≡ sums.soft +ℤ timing.soft → after.span ≡ sums.span +ℤ number_at (dimension_at model d).span_costs n *ℤ (timing.last -ℤ timing.start)
         → IsAround cumul_cost (number_at (dimension_at model d).span_costs n *ℤ (timing.last -ℤ timing.start))
         → IsSome after.extent → IfSome after.extent (IsWider sums.extent timing) → AreVehicleSums model lists d (n + 1) after

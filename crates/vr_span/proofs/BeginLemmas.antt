@@ -38,7 +38,8 @@ rises b s [] h le most = tt
 rises b s (r ∷ rs) h le most =
     let low = h.0 in
     let order = h.1 in
-    let last : IsTrue (has (r ∷ rs) r.hi) = or_left (in_run r r.hi) _ (and_both (int_le r.lo r.hi) _ (test_of_le r.lo r.hi order) (test_of_le r.hi r.hi (omega (arith, ints)))) in
+    let last : IsTrue (has (r ∷ rs) r.hi) = or_left (in_run r r.hi) _
+    (and_both (int_le r.lo r.hi) _ (test_of_le r.lo r.hi order) (test_of_le r.hi r.hi (omega (arith, ints)))) in
     let high = most r.hi last in (
       low,
       omega (arith, ints, le, low),
@@ -60,12 +61,14 @@ begin_rises set normal cumuls = go set normal cumuls
     go [] h c = tt
     go (r ∷ rs) h c =
         let order = h.1 in
-        let first : IsTrue (has (r ∷ rs) r.lo) = or_left (in_run r r.lo) _ (and_both (int_le r.lo r.lo) _ (test_of_le r.lo r.lo (omega (arith, ints))) (test_of_le r.lo r.hi order)) in
+        let first : IsTrue (has (r ∷ rs) r.lo) = or_left (in_run r r.lo) _
+        (and_both (int_le r.lo r.lo) _ (test_of_le r.lo r.lo (omega (arith, ints))) (test_of_le r.lo r.hi order)) in
         let low = (within_is (pos 0) horizon r.lo (c r.lo first)).0 in
         rises (pos 0) (pos 0) (r ∷ rs) (low, h.1, h.2, h.3) (omega (arith, ints)) (λ x is. (within_is (pos 0) horizon x (c x is)).1)
 
 -- one run more
-pub begin_more : (set : List Run) (k : ℕ) (run : Run) → slice_get set k ≡ Some run → map begin_of (take k set) ++ begin_of run ∷ [] ≡ map begin_of (take (suc k) set)
+pub begin_more : (set : List Run) (k : ℕ) (run : Run) → slice_get set k ≡ Some run
+    → map begin_of (take k set) ++ begin_of run ∷ [] ≡ map begin_of (take (suc k) set)
 begin_more [] k run is = let e : None ≡ Some run = sym (slice_get_past [] k (omega arith)) ∙ is in let f : None ≡ Some run → ⊥ = λ e. cc in absurd (f e)
 begin_more (r ∷ rs) zero run is = ap (λ q. begin_of q ∷ []) (sym (get_or_from_slice_get (r ∷ rs) 0 run r is))
 begin_more (r ∷ rs) (suc k) run is = ap (λ ps. begin_of r ∷ ps) (begin_more rs k run is)

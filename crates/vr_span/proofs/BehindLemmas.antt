@@ -25,7 +25,8 @@ until_low top b s (p ∷ ps) h le = let a = h.0 in omega (arith, ints, a)
 
 module _ (hop : Hop) (sound : IsSoundHop hop) where
   -- they rise as the pieces do
-  pub behind_rises : (b s : ℤ) (ps : List Piece) → pos 0 ≤ℤ b → IsRisingFrom horizon b s ps → IsRisingFrom piece_limit (b +ℤ hop.transit) s (pieces_behind hop ps)
+  pub behind_rises : (b s : ℤ) (ps : List Piece) → pos 0 ≤ℤ b → IsRisingFrom horizon b s ps
+      → IsRisingFrom piece_limit (b +ℤ hop.transit) s (pieces_behind hop ps)
   behind_rises b s [] zero h = tt
   behind_rises b s (p ∷ ps) zero h =
       let t = sound.transit.at_most in
@@ -48,7 +49,8 @@ module _ (hop : Hop) (sound : IsSoundHop hop) where
           by_one = omega (arith, ints, one, d);
           latest = h.2.latest;
         },
-        rises_earlier piece_limit ((until_of ps +ℤ pos 1) +ℤ hop.transit) ((moved_piece hop (until_of ps) p).hi +ℤ pos 1) p.last p.last (pieces_behind hop ps) (omega (arith, ints, c)) (omega (arith, ints))
+        rises_earlier piece_limit ((until_of ps +ℤ pos 1) +ℤ hop.transit) ((moved_piece hop (until_of ps) p).hi +ℤ pos 1)
+            p.last p.last (pieces_behind hop ps) (omega (arith, ints, c)) (omega (arith, ints))
             (behind_rises (until_of ps +ℤ pos 1) p.last ps (omega (arith, ints, until, zero, low, order)) (until_rises horizon (p.hi +ℤ pos 1) p.last ps h.3)),
       )
 
@@ -80,7 +82,8 @@ module _ (hop : Hop) (sound : IsSoundHop hop) where
   ]
 
   -- a cumul behind the prolonged piece is one of the pieces behind it
-  over_next : (p : Piece) (ps : List Piece) (s x y : ℤ) → IsPiece horizon p → IsRisingFrom horizon (p.hi +ℤ pos 1) p.last ps → InPiece p s y → (y +ℤ hop.transit) ≤ℤ x → x ≤ℤ (y +ℤ (hop.transit +ℤ hop.slack)) → until_of ps <ℤ (x -ℤ hop.transit) → FromPieces ps s x
+  over_next : (p : Piece) (ps : List Piece) (s x y : ℤ) → IsPiece horizon p → IsRisingFrom horizon (p.hi +ℤ pos 1) p.last ps → InPiece p s y
+      → (y +ℤ hop.transit) ≤ℤ x → x ≤ℤ (y +ℤ (hop.transit +ℤ hop.slack)) → until_of ps <ℤ (x -ℤ hop.transit) → FromPieces ps s x
   over_next p [] s x y is h i low high over =
       let a = i.1 in
       let great = is.greatest in
@@ -106,14 +109,19 @@ module _ (hop : Hop) (sound : IsSoundHop hop) where
           let e = to_min (x -ℤ hop.transit) (p.hi +ℤ hop.slack) (until_of ps) (omega (arith, ints, c, high)) within in
           or_left (has_from (moved_piece hop (until_of ps) p) s x) _
           (to_has (moved_piece hop (until_of ps) p) s x (omega (arith, ints, a, low), omega (arith, ints, e), omega (arith, ints, d, low), i.3)))
-      | inr over ↦ or_right (has_from (moved_piece hop (until_of ps) p) s x) _ (to_behind (p.hi +ℤ pos 1) p.last ps h.3 s x (over_next p ps s x y h.2 h.3 i low high over))
+      | inr over ↦ or_right (has_from (moved_piece hop (until_of ps) p) s x) _
+          (to_behind (p.hi +ℤ pos 1) p.last ps h.3 s x (over_next p ps s x y h.2 h.3 i low high over))
     ])
     | inr later ↦ or_right (has_from (moved_piece hop (until_of ps) p) s x) _ (to_behind (p.hi +ℤ pos 1) p.last ps h.3 s x (y, later, low, high))
   ]
 
   -- the pieces that lie in the next set are those to which the arc leads
-  pub arrive : (from : List Piece) (next : List Run) (out : List Piece) → ArePieces from → ((s x : ℤ) → have_from out s x ≡ (have_from (pieces_behind hop from) s x && has next x)) → Arrive hop from next out
+  pub arrive : (from : List Piece) (next : List Run) (out : List Piece) → ArePieces from
+      → ((s x : ℤ) → have_from out s x ≡ (have_from (pieces_behind hop from) s x && has next x)) → Arrive hop from next out
   arrive from next out are same s x = (
-    λ is. let both = sym (same s x) ∙ is in (and_right (have_from (pieces_behind hop from) s x) _ both, of_behind (pos 0) (pos 0) from are s x (and_left (have_from (pieces_behind hop from) s x) _ both)),
+    λ is. let both = sym (same s x) ∙ is in (
+      and_right (have_from (pieces_behind hop from) s x) _ both,
+      of_behind (pos 0) (pos 0) from are s x (and_left (have_from (pieces_behind hop from) s x) _ both),
+    ),
     λ h. same s x ∙ and_both (have_from (pieces_behind hop from) s x) _ (to_behind (pos 0) (pos 0) from are s x h.1) h.0,
   )

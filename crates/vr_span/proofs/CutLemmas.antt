@@ -1,5 +1,6 @@
 -- The loop over the pieces that lie in runs.
-use Rattle.std.proofs.Common.{◌≡◌, ◌∙◌, Bool, true, false, ◌&&◌, ◌||◌, List, [], ◌∷◌, ◌++◌, ℤ, pos, neg_ℤ, ◌+ℤ◌, ◌≤ℤ◌, refl, sym, ap, subst, inl, inr, arith, ◌⊎◌}
+use Rattle.std.proofs.Common.{◌≡◌, ◌∙◌, Bool, true, false, ◌&&◌, ◌||◌, List, [], ◌∷◌, ◌++◌, ℤ, pos, neg_ℤ, ◌+ℤ◌, ◌≤ℤ◌, refl, sym, ap, subst, inl, inr, arith}
+use Rattle.std.proofs.Common.{◌⊎◌}
 use Rattle.std.specs.Prelude.{IsTrue, int_le}
 use Rattle.std.specs.Int.{int_max}
 use Rattle.std.proofs.lemmas.Int.{ints}
@@ -12,7 +13,9 @@ use Rattle.vr_spans.proofs.Numbers.{has_below, has_lo}
 use Rattle.vr_steps.specs.Levels.{IsCumuls}
 use Rattle.vr_span.specs.declared.pieces.Piece.{Piece}
 use Rattle.vr_span.specs.Pieces.{piece_limit, start_of, has_from, have_from, IsPiece, IsRisingFrom, ArePieces, within_run, piece_if_any}
-use Rattle.vr_span.proofs.PieceLemmas.{AreBefore, before_append, before_kept, before_later, cut_has, have_append, kept_has, max_left, max_right, min_left, min_right, none_before, of_has, of_max, rises_earlier, rises_kept, start_by_one, start_first, start_last, start_rises, same_tests}
+use Rattle.vr_span.proofs.PieceLemmas.{AreBefore, before_append, before_kept, before_later, cut_has, have_append, kept_has, max_left, max_right, min_left}
+use Rattle.vr_span.proofs.PieceLemmas.{min_right, none_before, of_has, of_max, rises_earlier, rises_kept, start_by_one, start_first, start_last, start_rises}
+use Rattle.vr_span.proofs.PieceLemmas.{same_tests}
 
 -- no piece of out ends, or starts, after what the first of the pieces has in the first of the runs
 abbrev pub Precede : List Piece → List Piece → List Run → Type 0
@@ -30,10 +33,12 @@ pub record IsCutting (all : List Piece) (next : List Run) (out left : List Piece
   pub before : Precede out left right
 
 -- what the first two have in common has gone to the new list
-left_gone : (old new both l ls q qs all : Bool) → (old || ((l || ls) && (q || qs))) ≡ all → new ≡ (old || both) → both ≡ (l && q) → (l && qs) ≡ false → (new || (ls && (q || qs))) ≡ all
+left_gone : (old new both l ls q qs all : Bool) → (old || ((l || ls) && (q || qs))) ≡ all
+    → new ≡ (old || both) → both ≡ (l && q) → (l && qs) ≡ false → (new || (ls && (q || qs))) ≡ all
 left_gone old new both l ls q qs all e f g h = grind arith
 
-right_gone : (old new both l ls q qs all : Bool) → (old || ((l || ls) && (q || qs))) ≡ all → new ≡ (old || both) → both ≡ (l && q) → (ls && q) ≡ false → (new || ((l || ls) && qs)) ≡ all
+right_gone : (old new both l ls q qs all : Bool) → (old || ((l || ls) && (q || qs))) ≡ all
+    → new ≡ (old || both) → both ≡ (l && q) → (ls && q) ≡ false → (new || ((l || ls) && qs)) ≡ all
 right_gone old new both l ls q qs all e f g h = grind arith
 
 never : (b : Bool) → (IsTrue b → ⊥) → b ≡ false
@@ -42,7 +47,8 @@ never b h = same_tests b false (λ t. absurd (h t)) (λ t. let f : false ≡ tru
 rest_cumuls : (r : Run) (rs : List Run) → IsCumuls (r ∷ rs) → IsCumuls rs
 rest_cumuls r rs h x is = h x (or_right (in_run r x) _ is)
 
-module _ (all : List Piece) (next : List Run) (out : List Piece) (p : Piece) (ps : List Piece) (r : Run) (rs : List Run) (m : IsCutting all next out (p ∷ ps) (r ∷ rs)) where
+module _ (all : List Piece) (next : List Run) (out : List Piece) (p : Piece) (ps : List Piece)
+    (r : Run) (rs : List Run) (m : IsCutting all next out (p ∷ ps) (r ∷ rs)) where
   abbrev cut : Piece
   cut = within_run r p
 
@@ -56,7 +62,9 @@ module _ (all : List Piece) (next : List Run) (out : List Piece) (p : Piece) (ps
   run_low = (within_is (pos 0) horizon r.lo (m.right_cumuls r.lo (has_lo r rs m.right_normal.1))).0
 
   has_hi : IsTrue (has (r ∷ rs) r.hi)
-  has_hi = let order = m.right_normal.1 in or_left (in_run r r.hi) _ (and_both (int_le r.lo r.hi) _ (test_of_le r.lo r.hi order) (test_of_le r.hi r.hi (omega (arith, ints))))
+  has_hi =
+      let order = m.right_normal.1 in
+      or_left (in_run r r.hi) _ (and_both (int_le r.lo r.hi) _ (test_of_le r.lo r.hi order) (test_of_le r.hi r.hi (omega (arith, ints))))
 
   pub run_high : r.hi ≤ℤ horizon
   run_high = (within_is (pos 0) horizon r.hi (m.right_cumuls r.hi has_hi)).1
@@ -123,7 +131,8 @@ module _ (all : List Piece) (next : List Run) (out : List Piece) (p : Piece) (ps
 
     pub drop_left : IsCutting all next new ps (r ∷ rs)
     drop_left = record {
-      exact = λ s x. left_gone (have_from out s x) (have_from new s x) (has_from cut s x) (has_from p s x) (have_from ps s x) (in_run r x) (has rs x) _ (m.exact s x) (new_has s x) (cut_has r p s x) (apart s x);
+      exact = λ s x. left_gone (have_from out s x) (have_from new s x) (has_from cut s x) (has_from p s x)
+          (have_from ps s x) (in_run r x) (has rs x) _ (m.exact s x) (new_has s x) (cut_has r p s x) (apart s x);
       left_rises = rest_rises;
       right_normal = m.right_normal;
       right_cumuls = m.right_cumuls;
@@ -156,7 +165,8 @@ module _ (all : List Piece) (next : List Run) (out : List Piece) (p : Piece) (ps
 
     pub drop_right : IsCutting all next new (p ∷ ps) rs
     drop_right = record {
-      exact = λ s x. right_gone (have_from out s x) (have_from new s x) (has_from cut s x) (has_from p s x) (have_from ps s x) (in_run r x) (has rs x) _ (m.exact s x) (new_has s x) (cut_has r p s x) (over s x);
+      exact = λ s x. right_gone (have_from out s x) (have_from new s x) (has_from cut s x) (has_from p s x)
+          (have_from ps s x) (in_run r x) (has rs x) _ (m.exact s x) (new_has s x) (cut_has r p s x) (over s x);
       left_rises = m.left_rises;
       right_normal = normal_rest r rs m.right_normal;
       right_cumuls = rest_cumuls r rs m.right_cumuls;
@@ -165,8 +175,10 @@ module _ (all : List Piece) (next : List Run) (out : List Piece) (p : Piece) (ps
     }
 
 -- at first all are left
-pub cutting_begins : (all : List Piece) (next : List Run) → IsRisingFrom piece_limit (neg_ℤ piece_limit) (pos 0) all → IsNormal next → IsCumuls next → IsCutting all next [] all next
-cutting_begins all next rises normal cumuls = record { exact = λ s x. refl; left_rises = rises; right_normal = normal; right_cumuls = cumuls; rises = tt; before = none all next }
+pub cutting_begins : (all : List Piece) (next : List Run) → IsRisingFrom piece_limit (neg_ℤ piece_limit) (pos 0) all
+    → IsNormal next → IsCumuls next → IsCutting all next [] all next
+cutting_begins all next rises normal cumuls =
+    record { exact = λ s x. refl; left_rises = rises; right_normal = normal; right_cumuls = cumuls; rises = tt; before = none all next }
   where
     none : (ps : List Piece) (rs : List Run) → Precede [] ps rs
     none [] rs = tt
@@ -174,7 +186,8 @@ cutting_begins all next rises normal cumuls = record { exact = λ s x. refl; lef
     none (p ∷ ps) (r ∷ rs) = tt
 
 -- where nothing is left, all is there
-pub cutting_ends : (all : List Piece) (next : List Run) (out left : List Piece) (right : List Run) → IsCutting all next out left right → (left ≡ []) ⊎ (right ≡ []) → (s x : ℤ) → have_from out s x ≡ (have_from all s x && has next x)
+pub cutting_ends : (all : List Piece) (next : List Run) (out left : List Piece) (right : List Run)
+    → IsCutting all next out left right → (left ≡ []) ⊎ (right ≡ []) → (s x : ℤ) → have_from out s x ≡ (have_from all s x && has next x)
 cutting_ends all next out left right m (inl none) s x =
     let e = subst (λ ps. (have_from out s x || (have_from ps s x && has right x)) ≡ (have_from all s x && has next x)) none (m.exact s x) in grind (arith, e)
 cutting_ends all next out left right m (inr none) s x =

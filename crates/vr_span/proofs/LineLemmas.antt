@@ -14,12 +14,14 @@ use Rattle.vr_span.specs.Starts.{IsShortestWay, AreReachedPieces, AreReachedPiec
 use Rattle.vr_span.proofs.WayLemmas.{arc_told, never_told, shortest_told, start_told}
 
 module _ (stands : LinesStandForTheirs) (made : Line) (sound : IsSoundLine made) where
-  pub begin_at : ReachedAtStart → (set : List Run) → get_or made.allowed 0 [] ≡ set → (pieces : List Piece) → Begin set pieces → AreReachedPiecesAt made 0 pieces
+  pub begin_at : ReachedAtStart → (set : List Run) → get_or made.allowed 0 [] ≡ set
+      → (pieces : List Piece) → Begin set pieces → AreReachedPiecesAt made 0 pieces
   begin_at law set is pieces begin defined of =
       let s = stands defined made of sound in
       start_told defined s.sound law set (subst (IsAllowedSet defined 0) is (s.allowed 0 (let n = sound.stops in omega (arith, n)))) pieces begin
 
-  pub behind_at : ReachedByCrossing → ArcAlone → (k : ℕ) → k < length made.hops → (hop : Hop) → ((d : Hop) → get_or made.hops k d ≡ hop) → (set : List Run) → get_or made.allowed (k + 1) [] ≡ set
+  pub behind_at : ReachedByCrossing → ArcAlone → (k : ℕ) → k < length made.hops → (hop : Hop)
+      → ((d : Hop) → get_or made.hops k d ≡ hop) → (set : List Run) → get_or made.allowed (k + 1) [] ≡ set
       → (pieces out : List Piece) → AreReachedPiecesAt made k pieces → Arrive hop pieces set out → AreReachedPiecesAt made (k + 1) out
   behind_at crossing alone k lt hop hop_is set is pieces out told arrive defined of =
       let s = stands defined made of sound in
@@ -28,10 +30,12 @@ module _ (stands : LinesStandForTheirs) (made : Line) (sound : IsSoundLine made)
       let same = sym (hop_is hop) ∙ s.hops k hop lt in
       subst (λ i. AreReachedPieces defined i out) (sym next)
       (arc_told defined s.sound crossing alone k (let m = s.arcs in omega (arith, m, lt)) set
-      (subst (IsAllowedSet defined (suc k)) (subst (λ i. get_or made.allowed i [] ≡ set) next is) (s.allowed (suc k) (omega (arith, n, lt)))) pieces out (told defined of)
+      (subst (IsAllowedSet defined (suc k)) (subst (λ i. get_or made.allowed i [] ≡ set) next is) (s.allowed (suc k) (omega (arith, n, lt)))) pieces
+      out (told defined of)
       (subst (λ h. Arrive h pieces set out) same arrive))
 
-  module _ (meet : CumulWhereLevelsMeet) (at_end : ReachedAtEnd) (none : made.breaks ≡ []) (pieces : List Piece) (told : AreReachedPiecesAt made (length made.hops) pieces) where
+  module _ (meet : CumulWhereLevelsMeet) (at_end : ReachedAtEnd) (none : made.breaks ≡ [])
+      (pieces : List Piece) (told : AreReachedPiecesAt made (length made.hops) pieces) where
     at_last : (defined : Defined) (of : IsLineOf defined made) → AreReachedPieces defined (length defined.arcs) pieces
     at_last defined of = subst (λ n. AreReachedPieces defined n pieces) (sym (stands defined made of sound).arcs) (told defined of)
 

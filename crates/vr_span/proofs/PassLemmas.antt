@@ -1,5 +1,6 @@
 -- The pass over pieces and runs, as the code holds them.
-use Rattle.std.proofs.Common.{◌≡◌, ◌∙◌, ℕ, zero, suc, ◌+◌, ◌-◌, ◌<◌, ◌≤◌, List, [], ◌∷◌, ◌++◌, length, get_or, take, drop, ℤ, pos, neg_ℤ, ◌+ℤ◌, ◌≤ℤ◌, refl, sym, ap, subst, inl, inr, arith, ◌⊎◌}
+use Rattle.std.proofs.Common.{◌≡◌, ◌∙◌, ℕ, zero, suc, ◌+◌, ◌-◌, ◌<◌, ◌≤◌, List, [], ◌∷◌, ◌++◌, length, get_or, take, drop, ℤ, pos, neg_ℤ, ◌+ℤ◌, ◌≤ℤ◌, refl, sym}
+use Rattle.std.proofs.Common.{ap, subst, inl, inr, arith, ◌⊎◌}
 use Rattle.std.specs.Prelude.{slice_get, Some, None}
 use Rattle.std.proofs.lemmas.Int.{ints}
 use Rattle.std.proofs.lemmas.List.{take_all}
@@ -57,7 +58,9 @@ module _ (hop : Hop) (sound : IsSoundHop hop) (from : List Piece) (next : List R
   pub pass_begins : ArePieces from → IsNormal next → IsCumuls next → IsPassing hop from next [] from 0
   pass_begins are normal cumuls = record {
     cutting = cutting_begins (pieces_behind hop from) next
-        (let t = sound.transit.at_least in rises_earlier piece_limit (pos 0 +ℤ hop.transit) (neg_ℤ piece_limit) (pos 0) (pos 0) (pieces_behind hop from) (omega (arith, ints, t)) (omega (arith, ints)) (behind_rises hop sound (pos 0) (pos 0) from (omega (arith, ints)) are))
+        (let t = sound.transit.at_least in
+        rises_earlier piece_limit (pos 0 +ℤ hop.transit) (neg_ℤ piece_limit) (pos 0) (pos 0) (pieces_behind hop from)
+        (omega (arith, ints, t)) (omega (arith, ints)) (behind_rises hop sound (pos 0) (pos 0) from (omega (arith, ints)) are))
         normal cumuls;
     left_are = are;
   }
@@ -66,15 +69,18 @@ module _ (hop : Hop) (sound : IsSoundHop hop) (from : List Piece) (next : List R
     pub near_moved : IsNear (first_moved hop left)
     near_moved = go left some m.cutting.left_rises
       where
-        go : (left : List Piece) → 0 < length left → IsRisingFrom piece_limit (neg_ℤ piece_limit) (pos 0) (pieces_behind hop left) → IsNear (first_moved hop left)
+        go : (left : List Piece) → 0 < length left
+            → IsRisingFrom piece_limit (neg_ℤ piece_limit) (pos 0) (pieces_behind hop left) → IsNear (first_moved hop left)
         go [] some h = absurd (omega (arith, some))
-        go (p ∷ ps) some h = near_within piece_limit (neg_ℤ piece_limit) (omega (arith, ints)) (omega (arith, ints)) (moved_piece hop (until_of ps) p) h.0 h.1 h.2
+        go (p ∷ ps) some h =
+            near_within piece_limit (neg_ℤ piece_limit) (omega (arith, ints)) (omega (arith, ints)) (moved_piece hop (until_of ps) p) h.0 h.1 h.2
 
     module _ (r : Run) (is : slice_get next k ≡ Some r) where
       pub run_range : IsIn (pos 0) horizon r.lo × IsIn (pos 0) horizon r.hi
       run_range = go left some (subst (λ rs. IsCutting (pieces_behind hop from) next out (pieces_behind hop left) rs) (run_at next k r is) m.cutting)
         where
-          go : (left : List Piece) → 0 < length left → IsCutting (pieces_behind hop from) next out (pieces_behind hop left) (r ∷ drop (suc k) next) → IsIn (pos 0) horizon r.lo × IsIn (pos 0) horizon r.hi
+          go : (left : List Piece) → 0 < length left → IsCutting (pieces_behind hop from) next out (pieces_behind hop left) (r ∷ drop (suc k) next)
+              → IsIn (pos 0) horizon r.lo × IsIn (pos 0) horizon r.hi
           go [] some c = absurd (omega (arith, some))
           go (p ∷ ps) some c =
               let low = run_low _ _ _ _ _ _ _ c in
@@ -84,10 +90,13 @@ module _ (hop : Hop) (sound : IsSoundHop hop) (from : List Piece) (next : List R
 
       module _ (new : List Piece) (is_new : new ≡ out ++ piece_if_any (within_run r (first_moved hop left))) where
         pub take_left : (first_moved hop left).hi ≤ℤ r.hi → IsPassing hop from next new (take (length left - 1) (drop 1 left)) k
-        take_left first = go left some m.left_are is_new first (subst (λ rs. IsCutting (pieces_behind hop from) next out (pieces_behind hop left) rs) (run_at next k r is) m.cutting)
+        take_left first = go left some m.left_are is_new first
+            (subst (λ rs. IsCutting (pieces_behind hop from) next out (pieces_behind hop left) rs) (run_at next k r is) m.cutting)
           where
-            go : (left : List Piece) → 0 < length left → ArePieces left → new ≡ out ++ piece_if_any (within_run r (first_moved hop left)) → (first_moved hop left).hi ≤ℤ r.hi
-                → IsCutting (pieces_behind hop from) next out (pieces_behind hop left) (r ∷ drop (suc k) next) → IsPassing hop from next new (take (length left - 1) (drop 1 left)) k
+            go : (left : List Piece) → 0 < length left → ArePieces left
+                → new ≡ out ++ piece_if_any (within_run r (first_moved hop left)) → (first_moved hop left).hi ≤ℤ r.hi
+                → IsCutting (pieces_behind hop from) next out (pieces_behind hop left) (r ∷ drop (suc k) next)
+                → IsPassing hop from next new (take (length left - 1) (drop 1 left)) k
             go [] some are e first c = absurd (omega (arith, some))
             go (p ∷ ps) some are e first c =
                 let a = are.0 in
@@ -96,29 +105,36 @@ module _ (hop : Hop) (sound : IsSoundHop hop) (from : List Piece) (next : List R
                 let rises = are.2.rises in
                 rw (take_all (length (p ∷ ps) - 1) ps (omega arith)) (record {
                   cutting = subst (λ o. IsCutting (pieces_behind hop from) next o (pieces_behind hop ps) (drop k next)) (sym e)
-                      (subst (λ rs. IsCutting (pieces_behind hop from) next (out ++ piece_if_any (within_run r (moved_piece hop (until_of ps) p))) (pieces_behind hop ps) rs) (sym (run_at next k r is)) (drop_left _ _ _ _ _ _ _ c first));
-                  left_are = rises_earlier horizon (p.hi +ℤ pos 1) (pos 0) p.last (pos 0) ps (omega (arith, ints, a, order)) (omega (arith, ints, b, rises)) are.3;
+                      (subst (λ rs. IsCutting (pieces_behind hop from) next (out ++ piece_if_any (within_run r (moved_piece hop (until_of ps) p)))
+                      (pieces_behind hop ps) rs) (sym (run_at next k r is)) (drop_left _ _ _ _ _ _ _ c first));
+                  left_are =
+                      rises_earlier horizon (p.hi +ℤ pos 1) (pos 0) p.last (pos 0) ps (omega (arith, ints, a, order)) (omega (arith, ints, b, rises)) are.3;
                 })
 
         pub take_right : r.hi ≤ℤ (first_moved hop left).hi → IsPassing hop from next new left (k + 1)
-        take_right last = go left some m.left_are is_new last (subst (λ rs. IsCutting (pieces_behind hop from) next out (pieces_behind hop left) rs) (run_at next k r is) m.cutting)
+        take_right last = go left some m.left_are is_new last
+            (subst (λ rs. IsCutting (pieces_behind hop from) next out (pieces_behind hop left) rs) (run_at next k r is) m.cutting)
           where
-            go : (left : List Piece) → 0 < length left → ArePieces left → new ≡ out ++ piece_if_any (within_run r (first_moved hop left)) → r.hi ≤ℤ (first_moved hop left).hi
+            go : (left : List Piece) → 0 < length left → ArePieces left
+                → new ≡ out ++ piece_if_any (within_run r (first_moved hop left)) → r.hi ≤ℤ (first_moved hop left).hi
                 → IsCutting (pieces_behind hop from) next out (pieces_behind hop left) (r ∷ drop (suc k) next) → IsPassing hop from next new left (k + 1)
             go [] some are e last c = absurd (omega (arith, some))
             go (p ∷ ps) some are e last c =
                 let same : suc k ≡ k + 1 = omega arith in
                 record {
                   cutting = subst (λ o. IsCutting (pieces_behind hop from) next o (pieces_behind hop (p ∷ ps)) (drop (k + 1) next)) (sym e)
-                      (subst (λ n. IsCutting (pieces_behind hop from) next (out ++ piece_if_any (within_run r (moved_piece hop (until_of ps) p))) (pieces_behind hop (p ∷ ps)) (drop n next)) same (drop_right _ _ _ _ _ _ _ c last));
+                      (subst (λ n. IsCutting (pieces_behind hop from) next (out ++ piece_if_any (within_run r (moved_piece hop (until_of ps) p)))
+                      (pieces_behind hop (p ∷ ps)) (drop n next)) same (drop_right _ _ _ _ _ _ _ c last));
                   left_are = are;
                 }
 
-  pub pass_ends : (out left : List Piece) (k : ℕ) → ArePieces from → IsPassing hop from next out left k → (length left ≡ 0) ⊎ (length next ≤ k) → Arrive hop from next out
-  pass_ends out left k are m gone = arrive hop sound from next out are (cutting_ends (pieces_behind hop from) next out (pieces_behind hop left) (drop k next) m.cutting (elim gone [
-    | inl none ↦ inl (no_left left none)
-    | inr none ↦ inr (no_right next k none)
-  ]))
+  pub pass_ends : (out left : List Piece) (k : ℕ) → ArePieces from → IsPassing hop from next out left k
+      → (length left ≡ 0) ⊎ (length next ≤ k) → Arrive hop from next out
+  pass_ends out left k are m gone =
+      arrive hop sound from next out are (cutting_ends (pieces_behind hop from) next out (pieces_behind hop left) (drop k next) m.cutting (elim gone [
+        | inl none ↦ inl (no_left left none)
+        | inr none ↦ inr (no_right next k none)
+      ]))
     where
       no_left : (left : List Piece) → length left ≡ 0 → pieces_behind hop left ≡ []
       no_left [] e = refl

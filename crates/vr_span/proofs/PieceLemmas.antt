@@ -1,5 +1,6 @@
 -- What pieces have, and how they rise.
-use Rattle.std.proofs.Common.{◌≡◌, ◌∙◌, Bool, true, false, ◌&&◌, ◌||◌, List, [], ◌∷◌, ◌++◌, ◌^◌, ℤ, pos, neg_ℤ, ◌+ℤ◌, ◌-ℤ◌, ◌≤ℤ◌, ◌<ℤ◌, refl, sym, ap, inl, inr, arith, ◌⊎◌}
+use Rattle.std.proofs.Common.{◌≡◌, ◌∙◌, Bool, true, false, ◌&&◌, ◌||◌, List, [], ◌∷◌, ◌++◌, ◌^◌, ℤ, pos, neg_ℤ, ◌+ℤ◌, ◌-ℤ◌, ◌≤ℤ◌, ◌<ℤ◌, refl, sym, ap, inl, inr}
+use Rattle.std.proofs.Common.{arith, ◌⊎◌}
 use Rattle.std.specs.Prelude.{IsTrue, int_le, if◌then◌else◌}
 use Rattle.std.specs.Int.{int_max, int_min}
 use Rattle.std.proofs.lemmas.Int.{ints, int_max_is, int_min_is}
@@ -50,8 +51,12 @@ of_has p s x h =
     let rest = and_right (int_le p.lo x) _ h in
     let from = le_of_test s (start_of p x) (and_right (int_le x p.hi) _ rest) in
     let a = min_left (p.first +ℤ (x -ℤ p.lo)) p.last in
-    let b = min_right (p.first +ℤ (x -ℤ p.lo)) p.last in
-    (le_of_test p.lo x (and_left (int_le p.lo x) _ h), le_of_test x p.hi (and_left (int_le x p.hi) _ rest), omega (arith, ints, from, a), omega (arith, ints, from, b))
+    let b = min_right (p.first +ℤ (x -ℤ p.lo)) p.last in (
+      le_of_test p.lo x (and_left (int_le p.lo x) _ h),
+      le_of_test x p.hi (and_left (int_le x p.hi) _ rest),
+      omega (arith, ints, from, a),
+      omega (arith, ints, from, b),
+    )
 
 pub to_has : (p : Piece) (s x : ℤ) → InPiece p s x → IsTrue (has_from p s x)
 to_has p s x h =
@@ -102,8 +107,11 @@ in_cut r p s x h =
     let low = h.0 in
     let high = h.1 in
     let from = h.2 in
-    let most = h.3 in
-    ((omega (arith, ints, a, low), omega (arith, ints, c, high), omega (arith, ints, from, e), omega (arith, ints, most, f)), omega (arith, ints, b, low), omega (arith, ints, d, high))
+    let most = h.3 in (
+      (omega (arith, ints, a, low), omega (arith, ints, c, high), omega (arith, ints, from, e), omega (arith, ints, most, f)),
+      omega (arith, ints, b, low),
+      omega (arith, ints, d, high),
+    )
 
 pub to_cut : (r : Run) (p : Piece) (s x : ℤ) → InPiece p s x → r.lo ≤ℤ x → x ≤ℤ r.hi → InPiece (within_run r p) s x
 to_cut r p s x h low high =
@@ -118,9 +126,12 @@ to_cut r p s x h low high =
 
 pub cut_has : (r : Run) (p : Piece) (s x : ℤ) → has_from (within_run r p) s x ≡ (has_from p s x && in_run r x)
 cut_has r p s x = same_tests _ _
-    (λ h. let c = in_cut r p s x (of_has (within_run r p) s x h) in and_both (has_from p s x) _ (to_has p s x c.0) (and_both (int_le r.lo x) _ (test_of_le r.lo x c.1) (test_of_le x r.hi c.2)))
+    (λ h. let c = in_cut r p s x (of_has (within_run r p) s x h) in
+    and_both (has_from p s x) _ (to_has p s x c.0) (and_both (int_le r.lo x) _ (test_of_le r.lo x c.1) (test_of_le x r.hi c.2)))
     (λ h. let i = and_right (has_from p s x) _ h in
-    to_has (within_run r p) s x (to_cut r p s x (of_has p s x (and_left (has_from p s x) _ h)) (le_of_test r.lo x (and_left (int_le r.lo x) _ i)) (le_of_test x r.hi (and_right (int_le r.lo x) _ i))))
+    to_has (within_run r p) s x
+    (to_cut r p s x (of_has p s x (and_left (has_from p s x) _ h))
+    (le_of_test r.lo x (and_left (int_le r.lo x) _ i)) (le_of_test x r.hi (and_right (int_le r.lo x) _ i))))
 
 -- ---- lists of pieces
 
@@ -132,7 +143,13 @@ pub kept_has : (p : Piece) (s x : ℤ) → have_from (piece_if_any p) s x ≡ ha
 kept_has p s x = go (int_le p.lo p.hi) refl
   where
     none : int_le p.lo p.hi ≡ false → IsTrue (has_from p s x) → ⊥
-    none e h = let i = of_has p s x h in let a = i.0 in let b = i.1 in let t = test_of_le p.lo p.hi (omega (arith, ints, a, b)) in let f : false ≡ true → ⊥ = λ e. cc in f (sym e ∙ t)
+    none e h =
+        let i = of_has p s x h in
+        let a = i.0 in
+        let b = i.1 in
+        let t = test_of_le p.lo p.hi (omega (arith, ints, a, b)) in
+        let f : false ≡ true → ⊥ = λ e. cc in
+        f (sym e ∙ t)
 
     go : (b : Bool) → int_le p.lo p.hi ≡ b → have_from (if b then p ∷ [] else []) s x ≡ has_from p s x
     go true e = grind arith
@@ -158,7 +175,10 @@ AreBefore b s (p ∷ ps) = (p.hi <ℤ b) × (p.last ≤ℤ s) × AreBefore b s p
 
 pub before_later : (b c s t : ℤ) (ps : List Piece) → b ≤ℤ c → s ≤ℤ t → AreBefore b s ps → AreBefore c t ps
 before_later b c s t [] le lt h = tt
-before_later b c s t (p ∷ ps) le lt h = let e = h.0 in let l = h.1 in (omega (arith, ints, le, e), omega (arith, ints, lt, l), before_later b c s t ps le lt h.2)
+before_later b c s t (p ∷ ps) le lt h =
+    let e = h.0 in
+    let l = h.1 in
+    (omega (arith, ints, le, e), omega (arith, ints, lt, l), before_later b c s t ps le lt h.2)
 
 pub before_append : (b s : ℤ) (ps qs : List Piece) → AreBefore b s ps → AreBefore b s qs → AreBefore b s (ps ++ qs)
 before_append b s [] qs h k = k
@@ -172,15 +192,18 @@ before_kept b s p h k = go (int_le p.lo p.hi)
     go false = tt
 
 -- a piece behind all others
-pub rises_append : (top b s : ℤ) (ps : List Piece) (p : Piece) → IsRisingFrom top b s ps → AreBefore p.lo p.first ps → b ≤ℤ p.lo → s ≤ℤ p.first → IsPiece top p → IsRisingFrom top b s (ps ++ p ∷ [])
+pub rises_append : (top b s : ℤ) (ps : List Piece) (p : Piece) → IsRisingFrom top b s ps
+    → AreBefore p.lo p.first ps → b ≤ℤ p.lo → s ≤ℤ p.first → IsPiece top p → IsRisingFrom top b s (ps ++ p ∷ [])
 rises_append top b s [] p h before low start is = (low, start, is, tt)
-rises_append top b s (q ∷ ps) p h before low start is = (h.0, h.1, h.2, rises_append top (q.hi +ℤ pos 1) q.last ps p h.3 before.2 (let e = before.0 in omega (arith, ints, e)) before.1 is)
+rises_append top b s (q ∷ ps) p h before low start is =
+    (h.0, h.1, h.2, rises_append top (q.hi +ℤ pos 1) q.last ps p h.3 before.2 (let e = before.0 in omega (arith, ints, e)) before.1 is)
 
 nothing_more : (ps : List Piece) → ps ++ [] ≡ ps
 nothing_more [] = refl
 nothing_more (p ∷ ps) = ap (λ qs. p ∷ qs) (nothing_more ps)
 
-pub rises_kept : (top b s : ℤ) (ps : List Piece) (p : Piece) → IsRisingFrom top b s ps → AreBefore p.lo p.first ps → b ≤ℤ p.lo → s ≤ℤ p.first → (p.lo ≤ℤ p.hi → IsPiece top p) → IsRisingFrom top b s (ps ++ piece_if_any p)
+pub rises_kept : (top b s : ℤ) (ps : List Piece) (p : Piece) → IsRisingFrom top b s ps → AreBefore p.lo p.first ps
+    → b ≤ℤ p.lo → s ≤ℤ p.first → (p.lo ≤ℤ p.hi → IsPiece top p) → IsRisingFrom top b s (ps ++ piece_if_any p)
 rises_kept top b s ps p h before low start is = go (int_le p.lo p.hi) refl
   where
     go : (t : Bool) → int_le p.lo p.hi ≡ t → IsRisingFrom top b s (ps ++ (if t then p ∷ [] else []))

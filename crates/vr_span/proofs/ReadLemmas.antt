@@ -27,18 +27,22 @@ pub near_read : (x : ℤ) → IsNearNumber x → to_z w64 (of_z w64 x) ≡ x
 near_read x near = as_read x x refl (near_is_wide x near)
 
 -- a number behind an arc
-pub moved_read : (x transit : ℤ) → IsNearNumber x → IsIn (neg_ℤ (pos (2 ^ 31))) (pos (2 ^ 31)) transit → to_z w64 (of_z w64 (to_z w64 (of_z w64 x) +ℤ to_z w64 (of_z w64 transit))) ≡ x +ℤ transit
+pub moved_read : (x transit : ℤ) → IsNearNumber x → IsIn (neg_ℤ (pos (2 ^ 31))) (pos (2 ^ 31)) transit
+    → to_z w64 (of_z w64 (to_z w64 (of_z w64 x) +ℤ to_z w64 (of_z w64 transit))) ≡ x +ℤ transit
 moved_read x transit near t = omega (arith, ints, near, t)
 
 -- the last cumul before the next piece with the slack
-pub least_read : (m hi slack until : ℤ) → m ≡ int_min (to_z w64 (of_z w64 (to_z w64 (of_z w64 hi) +ℤ to_z w64 (of_z w64 slack)))) (to_z w64 (of_z w64 until)) → IsNearNumber hi → IsIn (pos 0) horizon slack → IsNearNumber until
+pub least_read : (m hi slack until : ℤ)
+    → m ≡ int_min (to_z w64 (of_z w64 (to_z w64 (of_z w64 hi) +ℤ to_z w64 (of_z w64 slack)))) (to_z w64 (of_z w64 until))
+    → IsNearNumber hi → IsIn (pos 0) horizon slack → IsNearNumber until
     → m ≡ int_min (hi +ℤ slack) until
 least_read m hi slack until is h s u =
     let sum : to_z w64 (of_z w64 (to_z w64 (of_z w64 hi) +ℤ to_z w64 (of_z w64 slack))) ≡ hi +ℤ slack = omega (arith, ints, h, s) in
     is ∙ ap₂ int_min sum (near_read until u)
 
 -- the end of a piece behind an arc: it fits, and is read as it is
-pub end_fits : (m hi slack until transit : ℤ) → m ≡ int_min (hi +ℤ slack) until → IsNearNumber hi → IsIn (pos 0) horizon slack → IsNearNumber until → IsIn (neg_ℤ (pos (2 ^ 31))) (pos (2 ^ 31)) transit
+pub end_fits : (m hi slack until transit : ℤ) → m ≡ int_min (hi +ℤ slack) until → IsNearNumber hi
+    → IsIn (pos 0) horizon slack → IsNearNumber until → IsIn (neg_ℤ (pos (2 ^ 31))) (pos (2 ^ 31)) transit
     → SFits w64 (to_z w64 (of_z w64 m) +ℤ to_z w64 (of_z w64 transit))
 end_fits m hi slack until transit is h s u t =
     let low = to_min (neg_ℤ (pos (2 ^ 60))) (hi +ℤ slack) until (omega (arith, ints, h, s)) (omega (arith, ints, u)) in
@@ -46,7 +50,8 @@ end_fits m hi slack until transit is h s u t =
     let read = as_read m (int_min (hi +ℤ slack) until) is (record { at_least = low; at_most = omega (arith, ints, high, u) }) in
     omega (arith, ints, read, low, high, u, t)
 
-pub end_read : (m hi slack until transit : ℤ) → m ≡ int_min (hi +ℤ slack) until → IsNearNumber hi → IsIn (pos 0) horizon slack → IsNearNumber until → IsIn (neg_ℤ (pos (2 ^ 31))) (pos (2 ^ 31)) transit
+pub end_read : (m hi slack until transit : ℤ) → m ≡ int_min (hi +ℤ slack) until → IsNearNumber hi
+    → IsIn (pos 0) horizon slack → IsNearNumber until → IsIn (neg_ℤ (pos (2 ^ 31))) (pos (2 ^ 31)) transit
     → to_z w64 (of_z w64 (to_z w64 (of_z w64 m) +ℤ to_z w64 (of_z w64 transit))) ≡ int_min (hi +ℤ slack) until +ℤ transit
 end_read m hi slack until transit is h s u t =
     let low = to_min (neg_ℤ (pos (2 ^ 60))) (hi +ℤ slack) until (omega (arith, ints, h, s)) (omega (arith, ints, u)) in

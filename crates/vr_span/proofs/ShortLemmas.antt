@@ -1,5 +1,6 @@
 -- The first of the pieces of the least span.
-use Rattle.std.proofs.Common.{◌≡◌, ◌∙◌, ℕ, zero, suc, ◌<◌, Bool, true, false, List, [], ◌∷◌, length, get_or, drop, ℤ, pos, ◌+ℤ◌, ◌-ℤ◌, ◌≤ℤ◌, ◌<ℤ◌, Option, Some, None, refl, sym, ap, subst, inl, inr, arith}
+use Rattle.std.proofs.Common.{◌≡◌, ◌∙◌, ℕ, zero, suc, ◌<◌, Bool, true, false, List, [], ◌∷◌, length, get_or, drop, ℤ, pos, ◌+ℤ◌, ◌-ℤ◌, ◌≤ℤ◌, ◌<ℤ◌, Option, Some}
+use Rattle.std.proofs.Common.{None, refl, sym, ap, subst, inl, inr, arith}
 use Rattle.std.specs.Prelude.{IsTrue, int_lt, if◌then◌else◌, IfSome, IsNone}
 use Rattle.std.proofs.lemmas.Int.{ints}
 use Rattle.vr_model.specs.tables.Numbers.{horizon}
@@ -25,7 +26,8 @@ first_is p is = let order = is.in_order in let rises = is.rises in to_has p p.fi
 
 module _ (b t : ℤ) (p : Piece) (ps : List Piece) (low : b ≤ℤ p.lo) (start : t ≤ℤ p.first) (is : IsPiece horizon p) where
   -- the piece in front, where those behind it are no shorter
-  front : ((s x : ℤ) → IsTrue (have_from ps s x) → span_of p ≤ℤ (x -ℤ s)) → ((s x : ℤ) → IsTrue (have_from ps s x) → (x -ℤ s) ≡ span_of p → p.first ≤ℤ s) → IsShortestFrom b t (p ∷ ps) p
+  front : ((s x : ℤ) → IsTrue (have_from ps s x) → span_of p ≤ℤ (x -ℤ s))
+      → ((s x : ℤ) → IsTrue (have_from ps s x) → (x -ℤ s) ≡ span_of p → p.first ≤ℤ s) → IsShortestFrom b t (p ∷ ps) p
   front least earliest = record {
     among = or_left (has_from p p.first p.lo) _ (first_is p is);
     least = λ s x h. elim (or_cases (has_from p s x) _ h) [
@@ -144,9 +146,12 @@ some_ends ps (Some d) h = h.ends
 
 pub ends_of_rest : (k : ℕ) (ps : List Piece) (best : Option Piece) → ArePieces ps → best ≡ shortest_of (drop k ps) → IfSome best BeginsInHorizon
 ends_of_rest k ps best h is =
-    subst (λ found. IfSome found BeginsInHorizon) (sym is) (some_ends (drop k ps) (shortest_of (drop k ps)) (shortest_some (drop k ps) (rest_are k (pos 0) (pos 0) ps (omega (arith, ints)) (omega (arith, ints)) h)))
+    subst (λ found. IfSome found BeginsInHorizon) (sym is)
+    (some_ends (drop k ps) (shortest_of (drop k ps))
+    (shortest_some (drop k ps) (rest_are k (pos 0) (pos 0) ps (omega (arith, ints)) (omega (arith, ints)) h)))
 
-pub one_more : (k : ℕ) (ps : List Piece) (d : Piece) (best : Option Piece) → k < length ps → best ≡ shortest_of (drop (suc k) ps) → Some (shorter_of (get_or ps k d) best) ≡ shortest_of (drop k ps)
+pub one_more : (k : ℕ) (ps : List Piece) (d : Piece) (best : Option Piece) → k < length ps
+    → best ≡ shortest_of (drop (suc k) ps) → Some (shorter_of (get_or ps k d) best) ≡ shortest_of (drop k ps)
 one_more k ps d best lt is = ap (λ b. Some (shorter_of (get_or ps k d) b)) is ∙ ap shortest_of (sym (first_of_rest k ps d lt))
 
 pub shorter_is : (p : Piece) (found : Option Piece) (d : Piece) → found ≡ Some d → span_of d <ℤ span_of p → d ≡ shorter_of p found

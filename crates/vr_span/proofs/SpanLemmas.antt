@@ -1,5 +1,6 @@
 -- The chosen schedule between the ends of the first of the shortest schedules.
-use Rattle.std.proofs.Common.{◌≡◌, ◌∙◌, ℕ, ◌<◌, List, [], ◌∷◌, ◌++◌, length, ℤ, ◌-ℤ◌, ◌≤ℤ◌, ◌<ℤ◌, Option, Some, None, false, true, refl, sym, ap, subst, inl, inr, arith, ◌⊎◌}
+use Rattle.std.proofs.Common.{◌≡◌, ◌∙◌, ℕ, ◌<◌, List, [], ◌∷◌, ◌++◌, length, ℤ, ◌-ℤ◌, ◌≤ℤ◌, ◌<ℤ◌, Option, Some, None, false, true, refl, sym, ap, subst, inl}
+use Rattle.std.proofs.Common.{inr, arith, ◌⊎◌}
 use Rattle.std.specs.Prelude.{IsTrue, IsNone, is_some}
 use Rattle.std.proofs.lemmas.Int.{ints}
 use Rattle.vr_model.specs.tables.Numbers.{is_lex_le}
@@ -61,14 +62,17 @@ module _ (line : Defined) (stops : HasStops line) (none : line.breaks ≡ []) (s
       | inl at ↦ (
           let end : end_of line other ≡ e = omega (arith, ints, at, same) in
           subst (λ xs. IsTrue (is_lex_le xs other.cumuls)) (without_breaks plan mine.0)
-          (subst (λ ys. IsTrue (is_lex_le (plan.cumuls ++ plan.breaks) ys)) (without_breaks other sch) (c.least other (to-between line stops s e other sch at end))))
-      | inr later ↦ lex_less_at 0 plan.cumuls other.cumuls (λ i lt. absurd (omega (arith, lt))) (long plan mine.0) (long other sch) (let a = mine.1 in omega (arith, ints, a, later))
+          (subst (λ ys. IsTrue (is_lex_le (plan.cumuls ++ plan.breaks) ys))
+          (without_breaks other sch) (c.least other (to-between line stops s e other sch at end))))
+      | inr later ↦ lex_less_at 0 plan.cumuls other.cumuls (λ i lt. absurd (omega (arith, lt)))
+          (long plan mine.0) (long other sch) (let a = mine.1 in omega (arith, ints, a, later))
     ]
       where
         long : (p : Wanted) → IsSchedule line p → 0 < length p.cumuls
         long p q = let n = q.cumul_of_each_stop in omega (arith, n, stops)
 
-module _ (stands : LinesStandForTheirs) (law : ChosenIsLeast) (feasible : ChosenWhereFeasible) (made : Line) (sound : IsSoundLine made) (none : made.breaks ≡ []) (way : Piece) (is : IsShortestWay made way) where
+module _ (stands : LinesStandForTheirs) (law : ChosenIsLeast) (feasible : ChosenWhereFeasible) (made : Line)
+    (sound : IsSoundLine made) (none : made.breaks ≡ []) (way : Piece) (is : IsShortestWay made way) where
   stops_of : (defined : Defined) → IsLineOf defined made → HasStops defined
   stops_of defined of = (stands defined made of sound).sound.stops
 
@@ -83,7 +87,8 @@ module _ (stands : LinesStandForTheirs) (law : ChosenIsLeast) (feasible : Chosen
     pub reached_told : IsReachedSpan made least
     reached_told defined of = record {
       schedule = its_schedule defined (stops_of defined of) (none_of_line defined of) way.first way.lo (is defined of) (as_defined least.plan) (its defined of);
-      span_is = its_span defined (stops_of defined of) (none_of_line defined of) way.first way.lo (is defined of) (as_defined least.plan) (its defined of) ∙ sym w;
+      span_is = its_span defined (stops_of defined of) (none_of_line defined of) way.first way.lo (is defined of) (as_defined least.plan) (its defined of)
+          ∙ sym w;
     }
 
     pub least_told : IsLeastSpanOf made least
@@ -96,18 +101,22 @@ module _ (stands : LinesStandForTheirs) (law : ChosenIsLeast) (feasible : Chosen
 
     pub first_told : IsFirstPlan made least
     first_told defined of other sch same =
-        first_of_span defined (stops_of defined of) (none_of_line defined of) way.first way.lo (is defined of) (as_defined least.plan) (its defined of) other sch (same ∙ w)
+        first_of_span defined (stops_of defined of) (none_of_line defined of) way.first
+        way.lo (is defined of) (as_defined least.plan) (its defined of) other sch (same ∙ w)
 
   -- and one is found
   pub never_none : (none_is : Option Plan) → IsChosenBetween made way.first way.lo none_is → IsNone none_is → IsUnfeasible made
   never_none (Some plan) found nothing defined of any = absurd (let f : true ≡ false → ⊥ = λ e. cc in f nothing)
   never_none None found nothing defined of any =
-      let some = (feasible (between defined way.first way.lo)).1 (between_feasible defined (stops_of defined of) (none_of_line defined of) way.first way.lo (is defined of)) in
+      let some = (feasible (between defined way.first way.lo)).1
+      (between_feasible defined (stops_of defined of) (none_of_line defined of) way.first way.lo (is defined of)) in
       let f : false ≡ true → ⊥ = λ e. cc in f (ap is_some (found defined of) ∙ some)
 
 -- the plan of the line that is pinned at both ends is chosen between them
-pub between_told : LinesStandForTheirs → (made : Line) → IsSoundLine made → (s e : ℤ) (last : ℕ) → last ≡ length made.hops → (ending narrow : Line) → IsPinnedOf made last e ending → IsPinnedOf ending 0 s narrow
+pub between_told : LinesStandForTheirs → (made : Line) → IsSoundLine made → (s e : ℤ) (last : ℕ)
+    → last ≡ length made.hops → (ending narrow : Line) → IsPinnedOf made last e ending → IsPinnedOf ending 0 s narrow
     → (found : Option Plan) → IsChosenPlanUnder Earliest narrow found → IsChosenBetween made s e found
 between_told stands made sound s e last last_is ending narrow ending_is narrow_is found chosen_is defined of =
     let at_end : last ≡ length defined.arcs = last_is ∙ sym (stands defined made of sound).arcs in
-    chosen_is (between defined s e) (narrow_is (pinned defined (length defined.arcs) e) (subst (λ k. IsLineOf (pinned defined k e) ending) at_end (ending_is defined of)))
+    chosen_is (between defined s e)
+    (narrow_is (pinned defined (length defined.arcs) e) (subst (λ k. IsLineOf (pinned defined k e) ending) at_end (ending_is defined of)))

@@ -1,5 +1,6 @@
 -- From which starts a stop of a line without breaks is reached, and the schedules from a start to an end.
-use Rattle.std.proofs.Common.{◌≡◌, ◌∙◌, ℕ, zero, suc, ◌<◌, ◌≤◌, true, false, ◌&&◌, List, [], ◌∷◌, length, get_or, set, take, drop, ℤ, pos, ◌+ℤ◌, ◌≤ℤ◌, refl, sym, ap, subst, arith}
+use Rattle.std.proofs.Common.{◌≡◌, ◌∙◌, ℕ, zero, suc, ◌<◌, ◌≤◌, true, false, ◌&&◌, List, [], ◌∷◌, length, get_or, set, take, drop, ℤ, pos, ◌+ℤ◌, ◌≤ℤ◌, refl}
+use Rattle.std.proofs.Common.{sym, ap, subst, arith}
 use Rattle.std.specs.Prelude.{IsTrue, ◌↔◌}
 use Rattle.std.proofs.lemmas.Int.{ints}
 use Rattle.std.proofs.lemmas.List.{length-set, get_or-set_same, get_or-set_other, get_or-take, length-take}
@@ -24,11 +25,13 @@ use Rattle.vr_span.specs.Starts.{AreReachedPieces, IsFirstShortest}
 
 -- all of no breaks fit anywhere
 fit_before : (rows : List BreakRow) (x : ℤ) → rows ≡ [] → FitBefore rows x
-fit_before [] x e = ([], record { one_of_each = refl; in_range = λ i lt. absurd (omega arith); in_order = λ i lt. absurd (omega arith) }, λ i lt. absurd (omega arith))
+fit_before [] x e =
+    ([], record { one_of_each = refl; in_range = λ i lt. absurd (omega arith); in_order = λ i lt. absurd (omega arith) }, λ i lt. absurd (omega arith))
 fit_before (r ∷ rs) x e = absurd (cc)
 
 fit_after : (rows : List BreakRow) (x : ℤ) → rows ≡ [] → FitAfter rows x
-fit_after [] x e = ([], record { one_of_each = refl; in_range = λ i lt. absurd (omega arith); in_order = λ i lt. absurd (omega arith) }, λ i lt. absurd (omega arith))
+fit_after [] x e =
+    ([], record { one_of_each = refl; in_range = λ i lt. absurd (omega arith); in_order = λ i lt. absurd (omega arith) }, λ i lt. absurd (omega arith))
 fit_after (r ∷ rs) x e = absurd (cc)
 
 -- a cumul that is reached is allowed
@@ -53,20 +56,24 @@ module _ (line : Defined) (sound : IsSound line) where
   }
 
   allows_start : (s x : ℤ) → allows (from s) 0 x ≡ (within (pos 0) horizon x && (get_or line.allowed 0 (λ _. false) x && is_same_number s x))
-  allows_start s x = ap (λ t. within (pos 0) horizon x && t x) (get_or-set_same line.allowed 0 (λ y. get_or line.allowed 0 (λ _. false) y && is_same_number s y) (λ _. false) starts)
+  allows_start s x = ap (λ t. within (pos 0) horizon x && t x)
+      (get_or-set_same line.allowed 0 (λ y. get_or line.allowed 0 (λ _. false) y && is_same_number s y) (λ _. false) starts)
 
   allows_later : (s x : ℤ) (k : ℕ) → allows (from s) (suc k) x ≡ allows line (suc k) x
-  allows_later s x k = ap (λ t. within (pos 0) horizon x && t x) (get_or-set_other line.allowed 0 (suc k) (λ y. get_or line.allowed 0 (λ _. false) y && is_same_number s y) (λ _. false) (omega arith))
+  allows_later s x k = ap (λ t. within (pos 0) horizon x && t x)
+      (get_or-set_other line.allowed 0 (suc k) (λ y. get_or line.allowed 0 (λ _. false) y && is_same_number s y) (λ _. false) (omega arith))
 
   -- ---- the start
 
-  pub start_told : ReachedAtStart → (set : List Run) → IsAllowedSet line 0 set → (pieces : List Piece) → ((s x : ℤ) → IsTrue (have_from pieces s x) ↔ (IsTrue (has set x) × (s ≤ℤ x))) → AreReachedPieces line 0 pieces
+  pub start_told : ReachedAtStart → (set : List Run) → IsAllowedSet line 0 set → (pieces : List Piece)
+      → ((s x : ℤ) → IsTrue (have_from pieces s x) ↔ (IsTrue (has set x) × (s ≤ℤ x))) → AreReachedPieces line 0 pieces
   start_told law set allowed pieces are s x = (
     λ h.
         let both = (are s x).0 h in
         let in_range = allowed.cumuls x both.0 in
         let test = sym (allowed.exact x) ∙ both.0 in
-        let here : IsTrue (allows (from x) 0 x) = allows_start x x ∙ and_both (within (pos 0) horizon x) _ in_range (and_both (get_or line.allowed 0 (λ _. false) x) _ test (tests_of_eq x x refl)) in
+        let here : IsTrue (allows (from x) 0 x) = allows_start x x
+        ∙ and_both (within (pos 0) horizon x) _ in_range (and_both (get_or line.allowed 0 (λ _. false) x) _ test (tests_of_eq x x refl)) in
         (x, both.1, (law (from x) (from_sound x) 0 (omega arith) x).1 (here, fit_before (take 0 line.breaks) x refl)),
     λ (start, le, reached).
         let here = sym (allows_start start x) ∙ ((law (from start) (from_sound start) 0 (omega arith) x).0 reached).0 in
@@ -77,9 +84,11 @@ module _ (line : Defined) (sound : IsSound line) where
 
   -- ---- one arc
 
-  module _ (crossing : ReachedByCrossing) (alone : ArcAlone) (k : ℕ) (lt : k < length line.arcs) (set : List Run) (allowed : IsAllowedSet line (suc k) set) where
+  module _ (crossing : ReachedByCrossing) (alone : ArcAlone) (k : ℕ)
+      (lt : k < length line.arcs) (set : List Run) (allowed : IsAllowedSet line (suc k) set) where
     abbrev Comes : (ℤ → Type 0) → ℤ → Type 0
-    Comes reached x = IsTrue (has set x) × ((y : ℤ) × reached y × ((y +ℤ (hop_at line k).transit) ≤ℤ x) × (x ≤ℤ (y +ℤ ((hop_at line k).transit +ℤ (hop_at line k).slack))))
+    Comes reached x = IsTrue (has set x)
+        × ((y : ℤ) × reached y × ((y +ℤ (hop_at line k).transit) ≤ℤ x) × (x ≤ℤ (y +ℤ ((hop_at line k).transit +ℤ (hop_at line k).slack))))
 
     plain_way : (s x y : ℤ) (a : ℕ) → a ≤ 0 → IsReached (from s) k a y → Leads (hop_at line k) (breaks_between line.breaks a 0) y x
         → IsReached (from s) k 0 y × ((y +ℤ (hop_at line k).transit) ≤ℤ x) × (x ≤ℤ (y +ℤ ((hop_at line k).transit +ℤ (hop_at line k).slack)))
@@ -100,8 +109,15 @@ module _ (line : Defined) (sound : IsSound line) where
         let begin = reached_allowed (from s) (from_sound s) k 0 y (omega (arith, lt)) reached in
         let in_range = allowed.cumuls x inside in
         let end = allows_later s x k ∙ and_both (within (pos 0) horizon x) _ in_range (sym (allowed.exact x) ∙ inside) in
-        let way : Leads (hop_at line k) [] y x = leads (hop_at line k) y x (record { begin = and_left (within (pos 0) horizon y) _ begin; «end» = in_range; least = low; greatest = high }) in
-        (crossing (from s) (from_sound s) k 0 lt (omega arith) x).1 (0, omega arith, y, reached, (alone (from s) (from_sound s) k 0 0 lt y x).1 (begin, end, way))
+        let way : Leads (hop_at line k) [] y x = leads (hop_at line k) y x
+        (record { begin = and_left (within (pos 0) horizon y) _ begin; «end» = in_range; least = low; greatest = high }) in
+        (crossing (from s) (from_sound s) k 0 lt (omega arith) x).1 (
+          0,
+          omega arith,
+          y,
+          reached,
+          (alone (from s) (from_sound s) k 0 0 lt y x).1 (begin, end, way),
+        )
 
     -- what is told behind the arc
     pub arc_told : (pieces out : List Piece) → AreReachedPieces line k pieces → Arrive (hop_at line k) pieces set out → AreReachedPieces line (suc k) out
@@ -164,4 +180,7 @@ module _ (line : Defined) (sound : IsSound line) where
 
       -- where there is no piece there is no schedule
       pub never_told : pieces ≡ [] → IsFeasible line → ⊥
-      never_told e (plan, sch) = let h = subst (λ ps. IsTrue (have_from ps (cumul plan 0) (end_of line plan))) e (has_schedule plan sch) in let f : false ≡ true → ⊥ = λ e. cc in f h
+      never_told e (plan, sch) =
+          let h = subst (λ ps. IsTrue (have_from ps (cumul plan 0) (end_of line plan))) e (has_schedule plan sch) in
+          let f : false ≡ true → ⊥ = λ e. cc in
+          f h

@@ -1,5 +1,6 @@
 -- When breaks can be taken one after another.
-use Rattle.std.proofs.Common.{◌≡◌, ℕ, zero, suc, ◌-◌, ◌<◌, ◌≤◌, ◌^◌, List, [], ◌∷◌, length, drop, get_or, All, ℤ, pos, neg_ℤ, ◌+ℤ◌, ◌-ℤ◌, ◌≤ℤ◌, refl, ap, ◌∙◌, arith}
+use Rattle.std.proofs.Common.{◌≡◌, ℕ, zero, suc, ◌-◌, ◌<◌, ◌≤◌, ◌^◌, List, [], ◌∷◌, length, drop, get_or, All, ℤ, pos, neg_ℤ, ◌+ℤ◌, ◌-ℤ◌, ◌≤ℤ◌, refl, ap, ◌∙◌}
+use Rattle.std.proofs.Common.{arith}
 use Rattle.std.specs.Int.{int_max, int_min}
 use Rattle.std.specs.Prelude.{EachIndex}
 use Rattle.std.proofs.lemmas.Int.{ints, clamps}
@@ -24,7 +25,8 @@ HaveDurations (r ∷ rs) = (pos 0 ≤ℤ r.duration) × HaveDurations rs
 
 pub durations_from_rows : (rs : List BreakRow) → All IsBreak rs → HaveDurations rs
 durations_from_rows [] h = tt
-durations_from_rows (r ∷ rs) h = (omega (arith, ints, (h 0 r (omega arith)).duration_in_range.at_least), durations_from_rows rs (λ k d lt. h (suc k) d (omega arith)))
+durations_from_rows (r ∷ rs) h =
+    (omega (arith, ints, (h 0 r (omega arith)).duration_in_range.at_least), durations_from_rows rs (λ k d lt. h (suc k) d (omega arith)))
 
 -- what a chain of breaks takes
 pub record HasRoom (rs : List BreakRow) (e x : ℤ) : Type 0 where
@@ -66,7 +68,8 @@ chain_forward [] e x h chain = chain
 chain_forward (r ∷ rs) e x h (z, from, to, after, rest) = let more = chain_forward rs (z +ℤ r.duration) x h.1 rest in omega (arith, ints, more, after, h.0)
 
 -- break starts make a chain
-pub chain_from_starts : (rows : List BreakRow) (starts : List ℤ) (e x : ℤ) → AreStarts rows starts → (0 < length rows → e ≤ℤ number_at starts 0) → EachIndex rows (λ i. (number_at starts i +ℤ (get_or rows i no_break).duration) ≤ℤ x) → e ≤ℤ x → IsChain rows e x
+pub chain_from_starts : (rows : List BreakRow) (starts : List ℤ) (e x : ℤ) → AreStarts rows starts → (0 < length rows → e ≤ℤ number_at starts 0)
+    → EachIndex rows (λ i. (number_at starts i +ℤ (get_or rows i no_break).duration) ≤ℤ x) → e ≤ℤ x → IsChain rows e x
 chain_from_starts [] starts e x are after over le = le
 chain_from_starts (r ∷ rs) [] e x are after over le = absurd (let n = are.one_of_each in omega (arith, n))
 chain_from_starts (r ∷ rs) (z ∷ zs) e x are after over le =
@@ -90,7 +93,8 @@ pub record Starts (rows : List BreakRow) (e x : ℤ) : Type 0 where
   pub over : EachIndex rows (λ i. (number_at starts i +ℤ (get_or rows i no_break).duration) ≤ℤ x)
 
 -- the starts of a chain with one break more in front
-starts_before : (r : BreakRow) (rs : List BreakRow) (e x z : ℤ) → r.from ≤ℤ z → z ≤ℤ r.to → e ≤ℤ z → pos 0 ≤ℤ r.duration → (z +ℤ r.duration) ≤ℤ x → Starts rs (z +ℤ r.duration) x → Starts (r ∷ rs) e x
+starts_before : (r : BreakRow) (rs : List BreakRow) (e x z : ℤ) → r.from ≤ℤ z → z ≤ℤ r.to → e ≤ℤ z
+    → pos 0 ≤ℤ r.duration → (z +ℤ r.duration) ≤ℤ x → Starts rs (z +ℤ r.duration) x → Starts (r ∷ rs) e x
 starts_before r rs e x z from to after long within more =
     record {
       starts = z ∷ more.starts;
@@ -99,11 +103,13 @@ starts_before r rs e x z from to after long within more =
       over = over;
     }
   where
-    in_range : EachIndex (r ∷ rs) (λ i. ((get_or (r ∷ rs) i no_break).from ≤ℤ number_at (z ∷ more.starts) i) × (number_at (z ∷ more.starts) i ≤ℤ (get_or (r ∷ rs) i no_break).to))
+    in_range : EachIndex (r ∷ rs)
+        (λ i. ((get_or (r ∷ rs) i no_break).from ≤ℤ number_at (z ∷ more.starts) i) × (number_at (z ∷ more.starts) i ≤ℤ (get_or (r ∷ rs) i no_break).to))
     in_range zero lt = (from, to)
     in_range (suc i) lt = more.are.in_range i (omega arith)
 
-    in_order : (i : ℕ) → suc i < length (r ∷ rs) → (number_at (z ∷ more.starts) i +ℤ (get_or (r ∷ rs) i no_break).duration) ≤ℤ number_at (z ∷ more.starts) (suc i)
+    in_order : (i : ℕ) → suc i < length (r ∷ rs)
+        → (number_at (z ∷ more.starts) i +ℤ (get_or (r ∷ rs) i no_break).duration) ≤ℤ number_at (z ∷ more.starts) (suc i)
     in_order zero lt = more.after 0 (omega arith)
     in_order (suc i) lt = more.are.in_order i (omega arith)
 
@@ -134,7 +140,8 @@ CanBegin-drop rs zero h = h
 CanBegin-drop [] (suc k) h = tt
 CanBegin-drop (r ∷ rs) (suc k) h = CanBegin-drop rs k h.1
 
-pub IsChainOf-after : (row : BreakRow) (rest : List BreakRow) (chain new : Chain) → IsBreak row → IsChainOf rest chain → HasBreakInFront row chain new → new.total ≤ℤ pos (2 ^ 39) → IsChainOf (row ∷ rest) new
+pub IsChainOf-after : (row : BreakRow) (rest : List BreakRow) (chain new : Chain) → IsBreak row
+    → IsChainOf rest chain → HasBreakInFront row chain new → new.total ≤ℤ pos (2 ^ 39) → IsChainOf (row ∷ rest) new
 IsChainOf-after row rest chain new valid m a short =
     let long = valid.duration_in_range in
     record {

@@ -49,7 +49,8 @@ well_formed = record {
   each_matrix = of_one (IsMatrix 3) _ (record { square = refl; entries_in_range = in_range least_value greatest_cost (matrix_at two_cars 0).entries refl });
   search_in_range = default_is_search;
   number_of_vehicles = record { at_least = omega arith; at_most = omega arith };
-  each_vehicle = of_one (IsVehicle three) car (record { start_in_range = omega arith; end_in_range = omega arith; costs_in_range = omega arith; fixed_in_range = one_in_range _ _ _ refl });
+  each_vehicle = of_one (IsVehicle three) car
+      (record { start_in_range = omega arith; end_in_range = omega arith; costs_in_range = omega arith; fixed_in_range = one_in_range _ _ _ refl });
   number_of_dimensions = omega arith;
   each_dimension = of_one (IsDimension three) dimension dimension_is;
   no_name_twice = refl;

@@ -26,7 +26,8 @@ module _ (rows : List BreakRow) (valid : All IsBreak rows) (x : ℤ) (low : pos 
   pub room_before : FitBefore rows x → HasRoom rows (pos 0) x
   room_before (starts, are, over) =
       room_from_chain rows (pos 0) x (durations_from_rows rows valid) (omega (arith, ints, low)) (omega (arith, ints, high))
-      (chain_from_starts rows starts (pos 0) x are (λ some. let range = are.in_range 0 some in let row = valid 0 no_break some in omega (arith, ints, range.0, row.from_in_range)) over low)
+      (chain_from_starts rows starts (pos 0) x are
+      (λ some. let range = are.in_range 0 some in let row = valid 0 no_break some in omega (arith, ints, range.0, row.from_in_range)) over low)
 
   pub fit_before : HasRoom rows (pos 0) x → FitBefore rows x
   fit_before room =
@@ -38,7 +39,8 @@ module _ (rows : List BreakRow) (valid : All IsBreak rows) (x : ℤ) (low : pos 
   room_after (starts, are, after) =
       room_from_chain rows x chain_limit (durations_from_rows rows valid) (omega (arith, ints)) (omega (arith, ints))
       (chain_from_starts rows starts x chain_limit are (λ some. after 0 some)
-      (λ i lt. let range = are.in_range i lt in let row = valid i no_break lt in omega (arith, ints, range.1, row.to_in_range, row.duration_in_range.at_most)) (omega (arith, ints, high)))
+      (λ i lt. let range = are.in_range i lt in let row = valid i no_break lt in
+      omega (arith, ints, range.1, row.to_in_range, row.duration_in_range.at_most)) (omega (arith, ints, high)))
 
   pub fit_after : HasRoom rows x chain_limit → FitAfter rows x
   fit_after room =
@@ -78,8 +80,10 @@ module _ (rows : List BreakRow) (chain : Chain) (valid : All IsBreak rows) (can 
   }
 
 -- breaks fit after some number of a set exactly where they fit after the least
-pub fit_behind_least : (set : List Run) (rows : List BreakRow) (least last : ℤ) → IsCumuls set → IsLeast set least → IsLatest rows last → (least ≤ℤ last) ↔ ((x : ℤ) × IsTrue (has set x) × FitAfter rows x)
+pub fit_behind_least : (set : List Run) (rows : List BreakRow) (least last : ℤ) → IsCumuls set
+    → IsLeast set least → IsLatest rows last → (least ≤ℤ last) ↔ ((x : ℤ) × IsTrue (has set x) × FitAfter rows x)
 fit_behind_least set rows least last cumuls is_least is_latest = (
   λ le. let w = within_is (pos 0) horizon least (cumuls least is_least.among) in (least, is_least.among, (is_latest.exact least w.0 w.1).1 le),
-  λ m. let w = within_is (pos 0) horizon m.0 (cumuls m.0 m.1) in let le = (is_latest.exact m.0 w.0 w.1).0 m.2 in let low = is_least.least m.0 m.1 in omega (arith, ints, le, low),
+  λ m. let w = within_is (pos 0) horizon m.0 (cumuls m.0 m.1) in let le = (is_latest.exact m.0 w.0 w.1).0 m.2 in
+      let low = is_least.least m.0 m.1 in omega (arith, ints, le, low),
 )

@@ -1,5 +1,6 @@
 -- The images of sets over passages, and how they add up to levels.
-use Rattle.std.proofs.Common.{◌≡◌, ℕ, suc, ◌-◌, ◌<◌, ◌≤◌, true, Bool, ◌&&◌, ◌||◌, ◌⊎◌, inl, inr, Option, Some, None, List, [], length, take, drop, All, ℤ, pos, neg_ℤ, ◌+ℤ◌, ◌≤ℤ◌, refl, sym, subst, ap, ◌∙◌, arith}
+use Rattle.std.proofs.Common.{◌≡◌, ℕ, suc, ◌-◌, ◌<◌, ◌≤◌, true, Bool, ◌&&◌, ◌||◌, ◌⊎◌, inl, inr, Option, Some, None, List, [], length, take, drop, All, ℤ, pos}
+use Rattle.std.proofs.Common.{neg_ℤ, ◌+ℤ◌, ◌≤ℤ◌, refl, sym, subst, ap, ◌∙◌, arith}
 use Rattle.std.specs.Prelude.{IsTrue, IsSome, IsNone, IfSome, ◌↔◌}
 use Rattle.std.proofs.lemmas.Int.{ints}
 use Rattle.std.proofs.lemmas.Bool.{and_parts, and_from, or_cases, or_left, or_right, cases_lt}
@@ -24,7 +25,8 @@ use Rattle.vr_steps.specs.Ways.{LeadsBy, IsLedTo, pass_by}
 use Rattle.vr_steps.proofs.PassageLemmas.{passage, closed}
 
 -- the answer of a passage over a chain
-module _ (hop : Hop) (rows : List BreakRow) (chain : Chain) (sound : IsSoundHop hop) (valid : All IsBreak rows) (some : 0 < length rows) (of : IsChainOf rows chain) where
+module _ (hop : Hop) (rows : List BreakRow) (chain : Chain) (sound : IsSoundHop hop)
+    (valid : All IsBreak rows) (some : 0 < length rows) (of : IsChainOf rows chain) where
   pub passage_some : CanBeginInTime rows → (r : Option Passage) → (IsSome r ↔ HasWay hop chain) → IfSome r (IsOver hop chain) → IfSome r (IsPassage hop rows)
   passage_some can None way is = tt
   passage_some can (Some p) way is = passage hop rows chain sound valid some of can (way.0 refl) p is
@@ -40,7 +42,9 @@ in_run_from : (r : Run) (x : ℤ) → r.lo ≤ℤ x → x ≤ℤ r.hi → in_run
 in_run_from r x low high = grind (arith, ints, low, high)
 
 -- what a relation leads to from the numbers of a set, within another one: both sets are clipped, and the first is stretched into the second
-module _ (Lead : ℤ → ℤ → Type 0) (from next left right image old whole : List Run) (out into : Run) (least greatest : ℤ) (exact : (y x : ℤ) → IsTrue (has from y) → IsTrue (has next x) → Lead y x ↔ (IsTrue (in_run out y) × IsTrue (in_run into x) × ((y +ℤ least) ≤ℤ x) × (x ≤ℤ (y +ℤ greatest)))) where
+module _ (Lead : ℤ → ℤ → Type 0) (from next left right image old whole : List Run) (out into : Run) (least greatest : ℤ)
+    (exact : (y x : ℤ) → IsTrue (has from y) → IsTrue (has next x)
+    → Lead y x ↔ (IsTrue (in_run out y) × IsTrue (in_run into x) × ((y +ℤ least) ≤ℤ x) × (x ≤ℤ (y +ℤ greatest)))) where
   added : ((y : ℤ) → has left y ≡ (has from y && in_run out y)) → ((x : ℤ) → has right x ≡ (has next x && in_run into x))
       → ((x : ℤ) → IsTrue (has image x) ↔ (IsTrue (has right x) × IsStretched least greatest left x)) → ((x : ℤ) → has whole x ≡ (has old x || has image x))
       → (x : ℤ) → IsTrue (has whole x) ↔ (IsTrue (has old x) ⊎ (IsTrue (has next x) × ((y : ℤ) × IsTrue (has from y) × Lead y x)))
@@ -67,9 +71,11 @@ module _ (Lead : ℤ → ℤ → Type 0) (from next left right image old whole :
       back_to (inr new) = wholes x ∙ or_right (has old x) (has image x) (image_of new)
 
 -- an arc over a passage, from one set to another
-module _ (hop : Hop) (rows : List BreakRow) (p : Passage) (is : IsPassage hop rows p) (begin_run end_run : Run) (until_is : begin_run ≡ upto p.until) (from_is : end_run ≡ onward p.from) where
+module _ (hop : Hop) (rows : List BreakRow) (p : Passage) (is : IsPassage hop rows p)
+    (begin_run end_run : Run) (until_is : begin_run ≡ upto p.until) (from_is : end_run ≡ onward p.from) where
   -- what it asks of two cumuls
-  asked : (y x : ℤ) → IsTrue (within (pos 0) horizon y) → IsTrue (within (pos 0) horizon x) → Leads hop rows y x ↔ (IsTrue (in_run begin_run y) × IsTrue (in_run end_run x) × ((y +ℤ p.least) ≤ℤ x) × (x ≤ℤ (y +ℤ p.greatest)))
+  asked : (y x : ℤ) → IsTrue (within (pos 0) horizon y) → IsTrue (within (pos 0) horizon x)
+      → Leads hop rows y x ↔ (IsTrue (in_run begin_run y) × IsTrue (in_run end_run x) × ((y +ℤ p.least) ≤ℤ x) × (x ≤ℤ (y +ℤ p.greatest)))
   asked y x begins ends = (to, back_to)
     where
       to : Leads hop rows y x → IsTrue (in_run begin_run y) × IsTrue (in_run end_run x) × ((y +ℤ p.least) ≤ℤ x) × (x ≤ℤ (y +ℤ p.greatest))
@@ -147,55 +153,90 @@ none_between rows b = drop_all b (take b rows) (let n = length-take b rows in om
 -- the levels behind an arc, level by level
 module _ (from : List (List Run)) (hop : Hop) (next : List Run) (rows : List BreakRow) (b : ℕ) where
   -- no break inside
-  pub first_arrivals : (set : List Run) → ((x : ℤ) → IsTrue (has set x) ↔ (IsTrue (has next x) × ((y : ℤ) × IsTrue (has (level_at from b) y) × Leads hop [] y x))) → AreArrivals from hop next rows b b set
+  pub first_arrivals : (set : List Run)
+      → ((x : ℤ) → IsTrue (has set x) ↔ (IsTrue (has next x) × ((y : ℤ) × IsTrue (has (level_at from b) y) × Leads hop [] y x)))
+      → AreArrivals from hop next rows b b set
   first_arrivals set is x = (to, back_to)
     where
-      to : IsTrue (has set x) → IsTrue (has next x) × ((a : ℕ) × (b ≤ a) × (a ≤ b) × (y : ℤ) × IsTrue (has (level_at from a) y) × Leads hop (breaks_between rows a b) y x)
-      to there = let m = (is x).0 there in (m.0, (b, omega arith, omega arith, m.1.0, m.1.1, subst (λ rs. Leads hop rs m.1.0 x) (sym (none_between rows b)) m.1.2))
+      to : IsTrue (has set x)
+          → IsTrue (has next x) × ((a : ℕ) × (b ≤ a) × (a ≤ b) × (y : ℤ) × IsTrue (has (level_at from a) y) × Leads hop (breaks_between rows a b) y x)
+      to there =
+          let m = (is x).0 there in
+          (m.0, (b, omega arith, omega arith, m.1.0, m.1.1, subst (λ rs. Leads hop rs m.1.0 x) (sym (none_between rows b)) m.1.2))
 
-      back_to : IsTrue (has next x) × ((a : ℕ) × (b ≤ a) × (a ≤ b) × (y : ℤ) × IsTrue (has (level_at from a) y) × Leads hop (breaks_between rows a b) y x) → IsTrue (has set x)
+      back_to : IsTrue (has next x) × ((a : ℕ) × (b ≤ a) × (a ≤ b) × (y : ℤ) × IsTrue (has (level_at from a) y) × Leads hop (breaks_between rows a b) y x)
+          → IsTrue (has set x)
       back_to (inside, (a, low, high, y, there, way)) =
           let e : a ≡ b = omega (arith, low, high) in
-          (is x).1 (inside, (y, subst (λ n. IsTrue (has (level_at from n) y)) e there, subst (λ rs. Leads hop rs y x) (ap (λ n. breaks_between rows n b) e ∙ none_between rows b) way))
+          (is x).1 (
+            inside,
+            (
+              y,
+              subst (λ n. IsTrue (has (level_at from n) y)) e there,
+              subst (λ rs. Leads hop rs y x) (ap (λ n. breaks_between rows n b) e ∙ none_between rows b) way,
+            ),
+          )
 
   -- one number of breaks more
   pub more_arrivals : (k : ℕ) (old set : List Run) → suc k ≤ b → AreArrivals from hop next rows (suc k) b old
-      → ((x : ℤ) → IsTrue (has set x) ↔ (IsTrue (has old x) ⊎ ArrivesAt (level_at from k) hop (breaks_between rows k b) next x)) → AreArrivals from hop next rows k b set
+      → ((x : ℤ) → IsTrue (has set x) ↔ (IsTrue (has old x) ⊎ ArrivesAt (level_at from k) hop (breaks_between rows k b) next x))
+      → AreArrivals from hop next rows k b set
   more_arrivals k old set le are is x = (λ there. to ((is x).0 there), λ m. (is x).1 (back_to m))
     where
-      to : IsTrue (has old x) ⊎ ArrivesAt (level_at from k) hop (breaks_between rows k b) next x → IsTrue (has next x) × ((a : ℕ) × (k ≤ a) × (a ≤ b) × (y : ℤ) × IsTrue (has (level_at from a) y) × Leads hop (breaks_between rows a b) y x)
+      to : IsTrue (has old x) ⊎ ArrivesAt (level_at from k) hop (breaks_between rows k b) next x
+          → IsTrue (has next x) × ((a : ℕ) × (k ≤ a) × (a ≤ b) × (y : ℤ) × IsTrue (has (level_at from a) y) × Leads hop (breaks_between rows a b) y x)
       to (inl kept) = let m = (are x).0 kept in (m.0, (m.1.0, let l = m.1.1 in omega (arith, l), m.1.2, m.1.3, m.1.4, m.1.5))
       to (inr (inside, (y, there, way))) = (inside, (k, omega arith, omega (arith, le), y, there, way))
 
-      back_to : IsTrue (has next x) × ((a : ℕ) × (k ≤ a) × (a ≤ b) × (y : ℤ) × IsTrue (has (level_at from a) y) × Leads hop (breaks_between rows a b) y x) → IsTrue (has old x) ⊎ ArrivesAt (level_at from k) hop (breaks_between rows k b) next x
+      back_to : IsTrue (has next x) × ((a : ℕ) × (k ≤ a) × (a ≤ b) × (y : ℤ) × IsTrue (has (level_at from a) y) × Leads hop (breaks_between rows a b) y x)
+          → IsTrue (has old x) ⊎ ArrivesAt (level_at from k) hop (breaks_between rows k b) next x
       back_to (inside, (a, low, high, y, there, way)) = elim (cases_lt k a) [
         | inl later ↦ inl ((are x).1 (inside, (a, omega (arith, later), high, y, there, way)))
-        | inr first ↦ (let e : a ≡ k = omega (arith, low, first) in inr (inside, (y, subst (λ n. IsTrue (has (level_at from n) y)) e there, subst (λ n. Leads hop (breaks_between rows n b) y x) e way)))
+        | inr first ↦ (let e : a ≡ k = omega (arith, low, first) in
+            inr (inside, (y, subst (λ n. IsTrue (has (level_at from n) y)) e there, subst (λ n. Leads hop (breaks_between rows n b) y x) e way)))
       ]
 
 -- the levels before an arc, level by level
 module _ (behind : List (List Run)) (hop : Hop) (here : List Run) (rows : List BreakRow) (a : ℕ) where
-  pub first_departures : (set : List Run) → ((y : ℤ) → IsTrue (has set y) ↔ (IsTrue (has here y) × ((x : ℤ) × IsTrue (has (level_at behind a) x) × Leads hop [] y x))) → AreDepartures behind hop here rows a a set
+  pub first_departures : (set : List Run)
+      → ((y : ℤ) → IsTrue (has set y) ↔ (IsTrue (has here y) × ((x : ℤ) × IsTrue (has (level_at behind a) x) × Leads hop [] y x)))
+      → AreDepartures behind hop here rows a a set
   first_departures set is y = (to, back_to)
     where
-      to : IsTrue (has set y) → IsTrue (has here y) × ((b : ℕ) × (a ≤ b) × (b ≤ a) × (x : ℤ) × IsTrue (has (level_at behind b) x) × Leads hop (breaks_between rows a b) y x)
-      to there = let m = (is y).0 there in (m.0, (a, omega arith, omega arith, m.1.0, m.1.1, subst (λ rs. Leads hop rs y m.1.0) (sym (none_between rows a)) m.1.2))
+      to : IsTrue (has set y)
+          → IsTrue (has here y) × ((b : ℕ) × (a ≤ b) × (b ≤ a) × (x : ℤ) × IsTrue (has (level_at behind b) x) × Leads hop (breaks_between rows a b) y x)
+      to there =
+          let m = (is y).0 there in
+          (m.0, (a, omega arith, omega arith, m.1.0, m.1.1, subst (λ rs. Leads hop rs y m.1.0) (sym (none_between rows a)) m.1.2))
 
-      back_to : IsTrue (has here y) × ((b : ℕ) × (a ≤ b) × (b ≤ a) × (x : ℤ) × IsTrue (has (level_at behind b) x) × Leads hop (breaks_between rows a b) y x) → IsTrue (has set y)
+      back_to : IsTrue (has here y) × ((b : ℕ) × (a ≤ b) × (b ≤ a) × (x : ℤ) × IsTrue (has (level_at behind b) x) × Leads hop (breaks_between rows a b) y x)
+          → IsTrue (has set y)
       back_to (inside, (b, low, high, x, there, way)) =
           let e : b ≡ a = omega (arith, low, high) in
-          (is y).1 (inside, (x, subst (λ n. IsTrue (has (level_at behind n) x)) e there, subst (λ rs. Leads hop rs y x) (ap (λ n. breaks_between rows a n) e ∙ none_between rows a) way))
+          (is y).1 (
+            inside,
+            (
+              x,
+              subst (λ n. IsTrue (has (level_at behind n) x)) e there,
+              subst (λ rs. Leads hop rs y x) (ap (λ n. breaks_between rows a n) e ∙ none_between rows a) way,
+            ),
+          )
 
   pub more_departures : (k : ℕ) (old set : List Run) → a ≤ k → AreDepartures behind hop here rows a k old
-      → ((y : ℤ) → IsTrue (has set y) ↔ (IsTrue (has old y) ⊎ DepartsAt (level_at behind (suc k)) hop (breaks_between rows a (suc k)) here y)) → AreDepartures behind hop here rows a (suc k) set
+      → ((y : ℤ) → IsTrue (has set y) ↔ (IsTrue (has old y) ⊎ DepartsAt (level_at behind (suc k)) hop (breaks_between rows a (suc k)) here y))
+      → AreDepartures behind hop here rows a (suc k) set
   more_departures k old set le are is y = (λ there. to ((is y).0 there), λ m. (is y).1 (back_to m))
     where
-      to : IsTrue (has old y) ⊎ DepartsAt (level_at behind (suc k)) hop (breaks_between rows a (suc k)) here y → IsTrue (has here y) × ((b : ℕ) × (a ≤ b) × (b ≤ suc k) × (x : ℤ) × IsTrue (has (level_at behind b) x) × Leads hop (breaks_between rows a b) y x)
+      to : IsTrue (has old y) ⊎ DepartsAt (level_at behind (suc k)) hop (breaks_between rows a (suc k)) here y
+          → IsTrue (has here y) × ((b : ℕ) × (a ≤ b) × (b ≤ suc k) × (x : ℤ) × IsTrue (has (level_at behind b) x) × Leads hop (breaks_between rows a b) y x)
       to (inl kept) = let m = (are y).0 kept in (m.0, (m.1.0, m.1.1, let l = m.1.2 in omega (arith, l), m.1.3, m.1.4, m.1.5))
       to (inr (inside, (x, there, way))) = (inside, (suc k, omega (arith, le), omega arith, x, there, way))
 
-      back_to : IsTrue (has here y) × ((b : ℕ) × (a ≤ b) × (b ≤ suc k) × (x : ℤ) × IsTrue (has (level_at behind b) x) × Leads hop (breaks_between rows a b) y x) → IsTrue (has old y) ⊎ DepartsAt (level_at behind (suc k)) hop (breaks_between rows a (suc k)) here y
+      back_to :
+          IsTrue (has here y) × ((b : ℕ) × (a ≤ b) × (b ≤ suc k) × (x : ℤ) × IsTrue (has (level_at behind b) x) × Leads hop (breaks_between rows a b) y x)
+          → IsTrue (has old y) ⊎ DepartsAt (level_at behind (suc k)) hop (breaks_between rows a (suc k)) here y
       back_to (inside, (b, low, high, x, there, way)) = elim (cases_lt k b) [
-        | inl later ↦ (let e : b ≡ suc k = omega (arith, high, later) in inr (inside, (x, subst (λ n. IsTrue (has (level_at behind n) x)) e there, subst (λ n. Leads hop (breaks_between rows a n) y x) e way)))
+        | inl later ↦ (let e : b ≡ suc k = omega (arith, high, later) in
+            inr (inside, (x, subst (λ n. IsTrue (has (level_at behind n) x)) e there, subst (λ n. Leads hop (breaks_between rows a n) y x) e way)))
         | inr first ↦ inl ((are y).1 (inside, (b, low, omega (arith, first), x, there, way)))
       ]

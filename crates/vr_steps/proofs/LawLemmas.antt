@@ -1,5 +1,6 @@
 -- The laws of levels, with those of the definitions put in: a proof that needs one cites it.
-use Rattle.std.proofs.Common.{◌≡◌, ◌||◌, ℕ, zero, suc, ◌<◌, List, [], ◌∷◌, length, get_or, map, ℤ, pos, neg_ℤ, ◌+ℤ◌, ◌≤ℤ◌, false, refl, sym, subst, ap, ◌∙◌, arith}
+use Rattle.std.proofs.Common.{◌≡◌, ◌||◌, ℕ, zero, suc, ◌<◌, List, [], ◌∷◌, length, get_or, map, ℤ, pos, neg_ℤ, ◌+ℤ◌, ◌≤ℤ◌, false, refl, sym, subst, ap, ◌∙◌}
+use Rattle.std.proofs.Common.{arith}
 use Rattle.std.specs.List.{AllZip}
 use Rattle.std.proofs.lemmas.Int.{ints}
 use Rattle.std.proofs.lemmas.Slice.Zip.{AllZip-long}
@@ -19,7 +20,8 @@ use Rattle.vr_steps.specs.declared.hops.Hop.{Hop}
 use Rattle.vr_steps.specs.Levels.{HasNumbers}
 use Rattle.vr_steps.specs.declared.lines.Line.{Line}
 use Rattle.vr_steps.specs.Lines.{hop_of, IsLineOf, IsSoundLine}
-use Rattle.vr_steps.specs.Reached.{ArcAlone, EndIsReached, EndReachedBeforeArc, FeasibleAtEnd, FeasibleWhereShared, LinesStandForTheirs, ReachedBehindArc, RunsAreCounted, SoundLinesAreDefined, StartIsReached}
+use Rattle.vr_steps.specs.Reached.{ArcAlone, EndIsReached, EndReachedBeforeArc, FeasibleAtEnd, FeasibleWhereShared, LinesStandForTheirs, ReachedBehindArc}
+use Rattle.vr_steps.specs.Reached.{RunsAreCounted, SoundLinesAreDefined, StartIsReached}
 use Rattle.vr_steps.proofs.LineLemmas.{defined_line}
 use Rattle.vr_steps.proofs.ReachLemmas as reach
 
@@ -52,7 +54,8 @@ sound_lines_are_defined = defined_line
 no_hop : Hop
 no_hop = record { transit = pos 0; slack = pos 0; visit = pos 0 }
 
-all_zip_at : {A B : Type 0} (R : A → B → Type 0) (xs : List A) (ys : List B) (k : ℕ) (d : A) (e : B) → AllZip R xs ys → k < length ys → R (get_or xs k d) (get_or ys k e)
+all_zip_at : {A B : Type 0} (R : A → B → Type 0) (xs : List A) (ys : List B) (k : ℕ) (d : A) (e : B)
+    → AllZip R xs ys → k < length ys → R (get_or xs k d) (get_or ys k e)
 all_zip_at R [] [] k d e h lt = absurd (omega arith)
 all_zip_at R [] (y ∷ ys) k d e h lt = absurd h
 all_zip_at R (x ∷ xs) [] k d e h lt = absurd h
@@ -69,12 +72,16 @@ theirs_is_sound : (defined : Defined) (made : Line) → IsLineOf defined made �
 theirs_is_sound defined made is sound =
     let long = ap length is.hops ∙ length-map defined.arcs (hop_of defined.slack_max) in
     let stops = AllZip-long HasNumbers defined.allowed made.allowed is.allowed in
-    let hop : (k : ℕ) → k < length defined.arcs → get_or made.hops k no_hop ≡ hop_of defined.slack_max (get_or defined.arcs k no_arc) = λ k lt. ap (λ hops. get_or hops k no_hop) is.hops ∙ hop_is defined.slack_max defined.arcs k no_hop lt in
+    let hop : (k : ℕ) → k < length defined.arcs → get_or made.hops k no_hop ≡ hop_of defined.slack_max (get_or defined.arcs k no_arc) =
+    λ k lt. ap (λ hops. get_or hops k no_hop) is.hops ∙ hop_is defined.slack_max defined.arcs k no_hop lt in
     record {
       stops = omega (arith, stops, long, sound.stops);
-      visits = λ k lt. let e = ap (λ h. h.visit) (hop k lt) in let m = sound.each_hop k no_hop (omega (arith, long, lt)) in omega (arith, ints, e, m.visit.at_least);
-      durations = λ i lt. subst (λ rows. pos 1 ≤ℤ (get_or rows i no_break).duration) is.breaks (sound.each_break i no_break (subst (λ rows. i < length rows) (sym is.breaks) lt)).duration_in_range.at_least;
-      forward = λ some k lt. let e = ap (λ h. h.transit) (hop k lt) in let m = sound.forward (subst (λ rows. 0 < length rows) (sym is.breaks) some) k no_hop (omega (arith, long, lt)) in omega (arith, ints, e, m);
+      visits = λ k lt. let e = ap (λ h. h.visit) (hop k lt) in
+          let m = sound.each_hop k no_hop (omega (arith, long, lt)) in omega (arith, ints, e, m.visit.at_least);
+      durations = λ i lt. subst (λ rows. pos 1 ≤ℤ (get_or rows i no_break).duration) is.breaks
+          (sound.each_break i no_break (subst (λ rows. i < length rows) (sym is.breaks) lt)).duration_in_range.at_least;
+      forward = λ some k lt. let e = ap (λ h. h.transit) (hop k lt) in
+          let m = sound.forward (subst (λ rows. 0 < length rows) (sym is.breaks) some) k no_hop (omega (arith, long, lt)) in omega (arith, ints, e, m);
     }
 
 -- a sound line that is that of a definition stands for it at each place
@@ -105,4 +112,5 @@ form_from m (r ∷ rs) h = (h.0, h.1, h.2, form_from (r.hi +ℤ pos 2) rs h.3)
 
 -- a set of cumuls has as many runs as the definitions count
 pub runs_are_counted : RunsAreCounted
-runs_are_counted set normal cumuls = runs_as_long_as_form Run ends (neg_ℤ limit) limit (has set) set (record { normal = form_from (neg_ℤ limit) set normal; same = has-in_runs set }) cumuls
+runs_are_counted set normal cumuls =
+    runs_as_long_as_form Run ends (neg_ℤ limit) limit (has set) set (record { normal = form_from (neg_ℤ limit) set normal; same = has-in_runs set }) cumuls

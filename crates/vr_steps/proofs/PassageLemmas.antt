@@ -1,11 +1,13 @@
 -- An arc with breaks inside.
-use Rattle.std.proofs.Common.{◌≡◌, ℕ, zero, suc, ◌+◌, ◌<◌, true, false, ◌&&◌, ◌⊎◌, inl, inr, cond, List, [], ◌∷◌, length, get_or, All, ℤ, pos, ◌+ℤ◌, ◌-ℤ◌, ◌≤ℤ◌, refl, sym, subst, ap, ap₂, ◌∙◌, arith}
+use Rattle.std.proofs.Common.{◌≡◌, ℕ, zero, suc, ◌+◌, ◌<◌, true, false, ◌&&◌, ◌⊎◌, inl, inr, cond, List, [], ◌∷◌, length, get_or, All, ℤ, pos, ◌+ℤ◌, ◌-ℤ◌, ◌≤ℤ◌}
+use Rattle.std.proofs.Common.{refl, sym, subst, ap, ap₂, ◌∙◌, arith}
 use Rattle.std.specs.Prelude.{IsTrue, EachIndex, int_le}
 use Rattle.std.specs.List.{range_with_len}
 use Rattle.std.proofs.lemmas.Int.{ints, clamps}
 use Rattle.vr_model.specs.tables.Numbers.{horizon, within, total_by}
 use Rattle.vr_model.specs.deciding.Testing.{and_left, and_right, and_both, le_of_test, test_of_le, within_is}
-use Rattle.vr_model.specs.schedules.Schedules.{Plan, no_side, no_break, KeepsRules, cumul, slack, allows, arc_at, break_time, break_start, break_end, break_at, is_inside, is_before, is_after}
+use Rattle.vr_model.specs.schedules.Schedules.{Plan, no_side, no_break, KeepsRules, cumul, slack, allows, arc_at, break_time, break_start, break_end, break_at}
+use Rattle.vr_model.specs.schedules.Schedules.{is_inside, is_before, is_after}
 use Rattle.vr_model.specs.tables.WellFormed.{IsBreak}
 use Rattle.vr_model.specs.declared.records.BreakRow.{BreakRow}
 use Rattle.vr_steps.specs.declared.hops.Hop.{Hop}
@@ -14,7 +16,8 @@ use Rattle.vr_steps.specs.declared.passages.Passage.{Passage}
 use Rattle.vr_steps.specs.Arcs.{IsSoundHop, one_arc, Leads}
 use Rattle.vr_steps.specs.Chains.{total_duration, CanBeginInTime, IsChainOf}
 use Rattle.vr_steps.specs.Passages.{MeetsPassage, IsOpen, IsPassage, LeadsNowhere, IsOver, HasWay}
-use Rattle.vr_steps.proofs.ChainLemmas.{IsChain, HaveDurations, HasRoom, Starts, durations_from_rows, room_from_chain, chain_from_room, chain_from_starts, starts_from_chain}
+use Rattle.vr_steps.proofs.ChainLemmas.{IsChain, HaveDurations, HasRoom, Starts, durations_from_rows, room_from_chain, chain_from_room, chain_from_starts}
+use Rattle.vr_steps.proofs.ChainLemmas.{starts_from_chain}
 
 no_false : {A : Type 0} → IsTrue false → A
 no_false h = absurd (clash h)
@@ -31,16 +34,19 @@ pub record LeadsOver (hop : Hop) (rows : List BreakRow) (y x : ℤ) : Type 0 whe
   pub chain : IsChain rows (y +ℤ hop.visit) x
 
 -- the durations of breaks, added up by place
-sum_durations : (rows : List BreakRow) (f : ℕ → ℤ) (a : ℕ) → ((i : ℕ) → i < length rows → f (a + i) ≡ (get_or rows i no_break).duration) → total_by f (range_with_len a (length rows)) ≡ total_duration rows
+sum_durations : (rows : List BreakRow) (f : ℕ → ℤ) (a : ℕ) → ((i : ℕ) → i < length rows → f (a + i) ≡ (get_or rows i no_break).duration)
+    → total_by f (range_with_len a (length rows)) ≡ total_duration rows
 sum_durations [] f a h = refl
 sum_durations (r ∷ rs) f a h =
     ap₂ (λ m n. m +ℤ n) (ap f (omega arith) ∙ h 0 (omega arith)) (sum_durations rs f (a + 1) (λ i lt. ap f (omega arith) ∙ h (suc i) (omega arith)))
 
 -- where all breaks lie inside the arc, the slack carries them all
-all_carried : (hop : Hop) (rows : List BreakRow) (plan : Plan) → EachIndex rows (λ i. IsTrue (is_inside (one_arc hop rows) plan i 0)) → break_time (one_arc hop rows) plan 0 ≡ total_duration rows
+all_carried : (hop : Hop) (rows : List BreakRow) (plan : Plan)
+    → EachIndex rows (λ i. IsTrue (is_inside (one_arc hop rows) plan i 0)) → break_time (one_arc hop rows) plan 0 ≡ total_duration rows
 all_carried hop rows plan inside =
     let inner : ℕ → ℤ = λ i. cond (is_inside (one_arc hop rows) plan i 0) (break_at (one_arc hop rows) i).duration (pos 0) in
-    sum_durations rows inner 0 (λ i lt. let same : 0 + i ≡ i = omega arith in ap inner same ∙ ap (λ b. cond b (get_or rows i no_break).duration (pos 0)) (inside i lt))
+    sum_durations rows inner 0
+    (λ i lt. let same : 0 + i ≡ i = omega arith in ap inner same ∙ ap (λ b. cond b (get_or rows i no_break).duration (pos 0)) (inside i lt))
 
 module _ (hop : Hop) (rows : List BreakRow) (y x : ℤ) where
   over_from_leads : 0 < length rows → HaveDurations rows → Leads hop rows y x → LeadsOver hop rows y x
@@ -64,16 +70,20 @@ module _ (hop : Hop) (rows : List BreakRow) (y x : ℤ) where
       inside : EachIndex rows (λ i. IsTrue (is_inside (one_arc hop rows) plan i 0))
       inside i lt = found (rules.breaks_placed i lt)
         where
-          found : IsTrue (false && is_before (one_arc hop rows) plan i) ⊎ IsTrue (false && is_after (one_arc hop rows) plan i) ⊎ (k : ℕ) × (k < 1) × IsTrue (is_inside (one_arc hop rows) plan i k) → IsTrue (is_inside (one_arc hop rows) plan i 0)
+          found : IsTrue (false && is_before (one_arc hop rows) plan i) ⊎ IsTrue (false && is_after (one_arc hop rows) plan i)
+              ⊎ (k : ℕ) × (k < 1) × IsTrue (is_inside (one_arc hop rows) plan i k) → IsTrue (is_inside (one_arc hop rows) plan i 0)
           found (inl t) = no_false t
           found (inr (inl t)) = no_false t
           found (inr (inr (k, low, t))) = let e : k ≡ 0 = omega (arith, low) in subst (λ n. IsTrue (is_inside (one_arc hop rows) plan i n)) e t
 
       after : EachIndex rows (λ i. (y +ℤ hop.visit) ≤ℤ break_start plan i)
-      after i lt = subst (λ n. (n +ℤ hop.visit) ≤ℤ break_start plan i) begin (le_of_test (cumul plan 0 +ℤ hop.visit) (break_start plan i) (and_left (int_le (cumul plan 0 +ℤ hop.visit) (break_start plan i)) _ (inside i lt)))
+      after i lt = subst (λ n. (n +ℤ hop.visit) ≤ℤ break_start plan i) begin
+          (le_of_test (cumul plan 0 +ℤ hop.visit) (break_start plan i) (and_left (int_le (cumul plan 0 +ℤ hop.visit) (break_start plan i)) _ (inside i lt)))
 
       over : EachIndex rows (λ i. break_end (one_arc hop rows) plan i ≤ℤ x)
-      over i lt = subst (λ n. break_end (one_arc hop rows) plan i ≤ℤ n) end (le_of_test (break_end (one_arc hop rows) plan i) (cumul plan 1) (and_right (int_le (cumul plan 0 +ℤ hop.visit) (break_start plan i)) _ (inside i lt)))
+      over i lt = subst (λ n. break_end (one_arc hop rows) plan i ≤ℤ n)
+          end (le_of_test (break_end (one_arc hop rows) plan i) (cumul plan 1)
+          (and_right (int_le (cumul plan 0 +ℤ hop.visit) (break_start plan i)) _ (inside i lt)))
 
       first_long : (rows : List BreakRow) → 0 < length rows → HaveDurations rows → pos 0 ≤ℤ (get_or rows 0 no_break).duration
       first_long [] some h = absurd (omega arith)
@@ -89,7 +99,8 @@ module _ (hop : Hop) (rows : List BreakRow) (y x : ℤ) where
       plan = record { cumuls = y ∷ x ∷ []; slacks = ((x -ℤ y) -ℤ hop.transit) ∷ []; breaks = taken.starts }
 
       inside : EachIndex rows (λ i. IsTrue (is_inside (one_arc hop rows) plan i 0))
-      inside i lt = and_both (int_le (y +ℤ hop.visit) (break_start plan i)) _ (test_of_le (y +ℤ hop.visit) (break_start plan i) (taken.after i lt)) (test_of_le (break_end (one_arc hop rows) plan i) x (taken.over i lt))
+      inside i lt = and_both (int_le (y +ℤ hop.visit) (break_start plan i)) _
+          (test_of_le (y +ℤ hop.visit) (break_start plan i) (taken.after i lt)) (test_of_le (break_end (one_arc hop rows) plan i) x (taken.over i lt))
 
       allowed : EachIndex (one_arc hop rows).allowed (λ k. IsTrue (allows (one_arc hop rows) k (cumul plan k)))
       allowed zero lt = and_both _ _ m.begin refl
@@ -130,7 +141,8 @@ module _ (hop : Hop) (rows : List BreakRow) (y x : ℤ) where
 cumul_range : (x : ℤ) → IsTrue (within (pos 0) horizon x) → (pos 0 ≤ℤ x) × (x ≤ℤ horizon)
 cumul_range x is = within_is (pos 0) horizon x is
 
-module _ (hop : Hop) (rows : List BreakRow) (chain : Chain) (sound : IsSoundHop hop) (valid : All IsBreak rows) (some : 0 < length rows) (of : IsChainOf rows chain) where
+module _ (hop : Hop) (rows : List BreakRow) (chain : Chain) (sound : IsSoundHop hop)
+    (valid : All IsBreak rows) (some : 0 < length rows) (of : IsChainOf rows chain) where
   -- what an arc over the breaks of a chain asks, in numbers
   asks : (y x : ℤ) → Leads hop rows y x → LeadsOver hop rows y x × HasRoom rows (y +ℤ hop.visit) x
   asks y x way =

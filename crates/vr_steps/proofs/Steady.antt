@@ -10,7 +10,8 @@ use Rattle.vr_model.specs.tables.Numbers.{below, from_to, horizon, within}
 use Rattle.vr_model.specs.schedules.Lines.{Line}
 use Rattle.vr_model.specs.schedules.Schedules.{allows, arc_at, IsFeasible, IsReached, ReachesEnd}
 use Rattle.vr_model.specs.schedules.SoundLines.{IsSound}
-use Rattle.vr_model.specs.schedules.Levels.{Crosses, FeasibleWhereLevelsMeet, ReachedAtStart, ReachedByCrossing, ReachedAtEnd, EndReachedByCrossing, AreStarts, FitBefore, FitAfter}
+use Rattle.vr_model.specs.schedules.Levels.{Crosses, FeasibleWhereLevelsMeet, ReachedAtStart, ReachedByCrossing, ReachedAtEnd, EndReachedByCrossing, AreStarts}
+use Rattle.vr_model.specs.schedules.Levels.{FitBefore, FitAfter}
 use Rattle.vr_model.specs.schedules.ChosenLaws.{ReachedAsTested, EndReachedAsTested}
 use Rattle.vr_model.specs.schedules.Choices.{is_reached, reaches_end}
 use Rattle.vr_model.specs.schedules.Weights.{runs, over_breaks, walk_weight}
@@ -49,7 +50,8 @@ module _ (line : Line) (steady : IsSteady line) where
       let s = steady.tight in
       omega (arith, ints, plain.least, plain.greatest, t, s)
 
-  leads_on : (k : ℕ) → k < length line.arcs → (y x : ℤ) → IsTrue (within (pos 0) horizon y) → IsTrue (within (pos 0) horizon x) → x ≡ y +ℤ pos 5 → Leads (hop_at line k) [] y x
+  leads_on : (k : ℕ) → k < length line.arcs → (y x : ℤ) → IsTrue (within (pos 0) horizon y)
+      → IsTrue (within (pos 0) horizon x) → x ≡ y +ℤ pos 5 → Leads (hop_at line k) [] y x
   leads_on k low y x from to is =
       let t = steady.transits k low in
       let s = steady.tight in
@@ -66,7 +68,8 @@ module _ (line : Line) (steady : IsSteady line) where
   allowed_there (suc k) le = (steady.others (suc k) (omega arith) le (pos (5 * suc k))).1 (in_range (suc k) le)
 
   module _ (at_start : ReachedAtStart) (crossing : ReachedByCrossing) (alone : ArcAlone) where
-    reached_on : (k : ℕ) → k < length line.arcs → ((x : ℤ) → IsReached line k 0 x ↔ (x ≡ pos (5 * k))) → (x : ℤ) → IsReached line (suc k) 0 x ↔ (x ≡ pos (5 * suc k))
+    reached_on : (k : ℕ) → k < length line.arcs → ((x : ℤ) → IsReached line k 0 x ↔ (x ≡ pos (5 * k)))
+        → (x : ℤ) → IsReached line (suc k) 0 x ↔ (x ≡ pos (5 * suc k))
     reached_on k low before x = (to, from)
       where
         to : IsReached line (suc k) 0 x → x ≡ pos (5 * suc k)
@@ -88,7 +91,8 @@ module _ (line : Line) (steady : IsSteady line) where
           (alone line steady.sound k 0 0 low (pos (5 * k)) x).1 (
             allowed_there k (omega (arith, low)),
             subst (λ z. IsTrue (allows line (suc k) z)) (sym e) (allowed_there (suc k) low),
-            leads_on k low (pos (5 * k)) x (in_range k (omega (arith, low))) (subst (λ z. IsTrue (within (pos 0) horizon z)) (sym e) (in_range (suc k) low)) (omega (arith, ints, e)),
+            leads_on k low (pos (5 * k)) x (in_range k (omega (arith, low)))
+                (subst (λ z. IsTrue (within (pos 0) horizon z)) (sym e) (in_range (suc k) low)) (omega (arith, ints, e)),
           ),
         )
 
@@ -117,10 +121,13 @@ module _ (line : Line) (steady : IsSteady line) where
         from : Fits 0 x → ReachesEnd line k 0 x
         from f =
             let law = at_end line steady.sound 0 (omega arith) x in
-            let there : IsTrue (allows line k x) = (steady.others k some (omega (arith, is)) x).1 (test_of_within (pos 0) horizon x f.0 (omega (arith, ints, f.1))) in
-            subst (λ n. ReachesEnd line n 0 x) (sym is) (law.1 (subst (λ n. IsTrue (allows line n x)) is there, subst (λ rows. FitAfter rows x) (sym steady.no_breaks) (none_after x)))
+            let there : IsTrue (allows line k x) =
+            (steady.others k some (omega (arith, is)) x).1 (test_of_within (pos 0) horizon x f.0 (omega (arith, ints, f.1))) in
+            subst (λ n. ReachesEnd line n 0 x) (sym is)
+            (law.1 (subst (λ n. IsTrue (allows line n x)) is there, subst (λ rows. FitAfter rows x) (sym steady.no_breaks) (none_after x)))
 
-    back_one : (k j : ℕ) → 0 < k → suc (k + j) ≡ length line.arcs → ((x : ℤ) → ReachesEnd line (suc k) 0 x ↔ Fits j x) → (y : ℤ) → ReachesEnd line k 0 y ↔ Fits (suc j) y
+    back_one : (k j : ℕ) → 0 < k → suc (k + j) ≡ length line.arcs
+        → ((x : ℤ) → ReachesEnd line (suc k) 0 x ↔ Fits j x) → (y : ℤ) → ReachesEnd line k 0 y ↔ Fits (suc j) y
     back_one k j some is behind y = (to, from)
       where
         low : k < length line.arcs
@@ -144,13 +151,18 @@ module _ (line : Line) (steady : IsSteady line) where
         from : Fits (suc j) y → ReachesEnd line k 0 y
         from f =
             let here : IsTrue (within (pos 0) horizon y) = test_of_within (pos 0) horizon y f.0 (omega (arith, ints, f.1)) in
-            let next : IsTrue (within (pos 0) horizon (y +ℤ pos 5)) = test_of_within (pos 0) horizon (y +ℤ pos 5) (omega (arith, ints, f.0)) (omega (arith, ints, f.1)) in
+            let next : IsTrue (within (pos 0) horizon (y +ℤ pos 5)) = test_of_within (pos 0)
+            horizon (y +ℤ pos 5) (omega (arith, ints, f.0)) (omega (arith, ints, f.1)) in
             (back_over line steady.sound k 0 low (omega arith) y).1 (
               0,
               omega arith,
               omega arith,
               y +ℤ pos 5,
-              (alone line steady.sound k 0 0 low y (y +ℤ pos 5)).1 ((steady.others k some (omega (arith, low)) y).1 here, (steady.others (suc k) (omega arith) low (y +ℤ pos 5)).1 next, leads_on k low y (y +ℤ pos 5) here next refl),
+              (alone line steady.sound k 0 0 low y (y +ℤ pos 5)).1 (
+                (steady.others k some (omega (arith, low)) y).1 here,
+                (steady.others (suc k) (omega arith) low (y +ℤ pos 5)).1 next,
+                leads_on k low y (y +ℤ pos 5) here next refl,
+              ),
               (behind (y +ℤ pos 5)).1 (omega (arith, ints, f.0), omega (arith, ints, f.1)),
             )
 
@@ -174,7 +186,8 @@ module _ (counted : RunsAreCounted) where
       ends_of x h = within_is lo hi x (or_none (within lo hi x) h)
 
       same : has (run ∷ []) ≡ test
-      same = λ i x. same_tests (has (run ∷ []) x) (test x) (λ h. (is x).1 (ends_of x h)) (λ t. let w = (is x).0 t in or_left (within lo hi x) false (test_of_within lo hi x w.0 w.1)) i
+      same = λ i x. same_tests (has (run ∷ []) x) (test x) (λ h. (is x).1 (ends_of x h))
+          (λ t. let w = (is x).0 t in or_left (within lo hi x) false (test_of_within lo hi x w.0 w.1)) i
 
       normal : IsNormal (run ∷ [])
       normal = (omega (arith, ints, from_zero), some, omega (arith, ints, below_all), tt)
@@ -189,14 +202,16 @@ sum_of_three f a b c = omega arith
 over_none : (line : Line) → line.breaks ≡ [] → (f : ℕ → ℕ) → over_breaks line f ≡ f 0
 over_none line none f = ap (λ rows. sum_by f (below (suc (length rows)))) none ∙ omega arith
 
-module _ (line : Line) (steady : IsSteady line) (at_start : ReachedAtStart) (crossing : ReachedByCrossing) (at_end : ReachedAtEnd) (back_over : EndReachedByCrossing)
+module _ (line : Line) (steady : IsSteady line) (at_start : ReachedAtStart)
+    (crossing : ReachedByCrossing) (at_end : ReachedAtEnd) (back_over : EndReachedByCrossing)
     (tested : ReachedAsTested) (end_tested : EndReachedAsTested) (alone : ArcAlone) (counted : RunsAreCounted) where
   runs_at : (k : ℕ) → k ≤ length line.arcs → runs (is_reached line k 0) ≡ 1
   runs_at k le =
       let f = steady.few in
       one_run counted (is_reached line k 0) (pos (5 * k)) (pos (5 * k)) (omega (arith, ints)) (omega (arith, ints)) (omega (arith, ints, le, f))
       (λ x. (
-        λ t. let e : x ≡ pos (5 * k) = (reached line steady at_start crossing alone k le x).0 ((tested line k 0 x).0 t) in (omega (arith, ints, e), omega (arith, ints, e)),
+        λ t. let e : x ≡ pos (5 * k) = (reached line steady at_start crossing alone k le x).0 ((tested line k 0 x).0 t) in
+            (omega (arith, ints, e), omega (arith, ints, e)),
         λ w. (tested line k 0 x).1 ((reached line steady at_start crossing alone k le x).1 (let lo = w.0 in let hi = w.1 in omega (arith, ints, lo, hi))),
       ))
 
@@ -224,7 +239,8 @@ module _ (line : Line) (steady : IsSteady line) (at_start : ReachedAtStart) (cro
   three_arcs a j is =
       let arcs : ℕ → ℕ = λ k. over_breaks line (λ b. runs (is_reached line k b) * (length line.breaks - b + 1)) in
       let n : a + 3 - a ≡ 3 = omega arith in
-      let sum : sum_by arcs (from_to a (a + 3)) ≡ arcs a + (arcs (a + 1) + arcs (a + 1 + 1)) = ap (λ m. sum_by arcs (range_with_len a m)) n ∙ sum_of_three arcs a (a + 1) (a + 1 + 1) in
+      let sum : sum_by arcs (from_to a (a + 3)) ≡ arcs a + (arcs (a + 1) + arcs (a + 1 + 1)) = ap (λ m. sum_by arcs (range_with_len a m)) n
+      ∙ sum_of_three arcs a (a + 1) (a + 1 + 1) in
       let x = arc_weighs a (omega (arith, is)) in
       let y = arc_weighs (a + 1) (omega (arith, is)) in
       let z = arc_weighs (a + 1 + 1) (omega (arith, is)) in
@@ -232,7 +248,8 @@ module _ (line : Line) (steady : IsSteady line) (at_start : ReachedAtStart) (cro
       ap₂ (λ m k. m + k) (sum ∙ ap₂ (λ m k. m + k) x (ap₂ (λ m k. m + k) y z)) join
 
 -- a steady line has a schedule
-module _ (line : Line) (steady : IsSteady line) (at_start : ReachedAtStart) (crossing : ReachedByCrossing) (at_end : ReachedAtEnd) (back_over : EndReachedByCrossing) (alone : ArcAlone) (meet : FeasibleWhereLevelsMeet) where
+module _ (line : Line) (steady : IsSteady line) (at_start : ReachedAtStart) (crossing : ReachedByCrossing)
+    (at_end : ReachedAtEnd) (back_over : EndReachedByCrossing) (alone : ArcAlone) (meet : FeasibleWhereLevelsMeet) where
   pub goes_through : (j : ℕ) → 1 + j ≡ length line.arcs → IsFeasible line
   goes_through j is =
       let f = steady.few in

@@ -47,7 +47,8 @@ differ [] back a b distinct = λ e.
     clash (holds (a ∷ back) b) (or_left (b == a) _ (test_of_eq b a (sym e))) (fails_not (holds (a ∷ back) b) (and_left (not (holds (a ∷ back) b)) _ distinct))
 differ (x ∷ front) back a b distinct = differ front back a b (and_right (not (holds (front ++ b ∷ a ∷ back) x)) _ distinct)
 
-module _ (sound : LinesAreSound) (at_start : ReachedAtStart) (crossing : ReachedByCrossing) (at_end : ReachedAtEnd) (back_over : EndReachedByCrossing) (alone : ArcAlone) where
+module _ (sound : LinesAreSound) (at_start : ReachedAtStart) (crossing : ReachedByCrossing)
+    (at_end : ReachedAtEnd) (back_over : EndReachedByCrossing) (alone : ArcAlone) where
   pub weighs_five : ReachedAsTested → EndReachedAsTested → RunsAreCounted → SwapWeighsFive
   weighs_five tested end_tested counted model even front back a b tour =
       let old : List ℕ = front ++ a ∷ b ∷ back in
@@ -57,8 +58,10 @@ module _ (sound : LinesAreSound) (at_start : ReachedAtStart) (crossing : Reached
       let n : length new ≡ length front + suc (suc (length back)) = length-append front (b ∷ a ∷ back) in
       let arcs = arcs_of_line model 0 0 new in
       let last : length new + 1 - shared_back old new ≡ length front + 3 = (let s = shared_behind front back a b other in omega (arith, n, s)) in
-      let weight = three_arcs (line model 0 0 new) (steady model even sound new some tour.visits tour.distinct tour.few) at_start crossing at_end back_over tested end_tested alone counted (length front) (length back) (omega (arith, n, arcs)) in
-      ap₂ (λ s t. cond (s || t) 0 (walk_weight (line model 0 0 new) (shared_front old new) (length new + 1 - shared_back old new))) some (not_same front (b ∷ back) (a ∷ back) a b other)
+      let weight = three_arcs (line model 0 0 new) (steady model even sound new some tour.visits tour.distinct tour.few) at_start
+      crossing at_end back_over tested end_tested alone counted (length front) (length back) (omega (arith, n, arcs)) in
+      ap₂ (λ s t. cond (s || t) 0 (walk_weight (line model 0 0 new) (shared_front old new) (length new + 1 - shared_back old new)))
+      some (not_same front (b ∷ back) (a ∷ back) a b other)
       ∙ (ap₂ (λ m e. walk_weight (line model 0 0 new) m e) (shared_before front (b ∷ back) (a ∷ back) a b other) last ∙ weight)
 
   pub goes : FeasibleWhereLevelsMeet → ChosenWhereFeasible → SwapIsFeasible
@@ -66,4 +69,5 @@ module _ (sound : LinesAreSound) (at_start : ReachedAtStart) (crossing : Reached
       let new : List ℕ = front ++ b ∷ a ∷ back in
       let some : is_empty new ≡ false = not_empty front (a ∷ back) b in
       let arcs = arcs_of_line model 0 0 new in
-      (chosen (line model 0 0 new)).1 (goes_through (line model 0 0 new) (steady model even sound new some tour.visits tour.distinct tour.few) at_start crossing at_end back_over alone meet (length new) (omega (arith, arcs)))
+      (chosen (line model 0 0 new)).1 (goes_through (line model 0 0 new) (steady model even sound new some tour.visits tour.distinct tour.few)
+      at_start crossing at_end back_over alone meet (length new) (omega (arith, arcs)))

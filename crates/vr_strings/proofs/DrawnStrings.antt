@@ -46,7 +46,8 @@ first_fits width n p words least fits place =
     by (draw k words).0 low
   where
     by : (d : ℕ) → d < (min p (n - width) - ((p + 1) - width)) + 1 → IsFirstIn width n p (((p + 1) - width) + d)
-    by d low = record { from = omega (arith, low, least, fits, place); until = omega (arith, low, least, fits, place); to = omega (arith, low, least, fits, place) }
+    by d low =
+        record { from = omega (arith, low, least, fits, place); until = omega (arith, low, least, fits, place); to = omega (arith, low, least, fits, place) }
 
 -- ---- the place that stays
 
@@ -57,7 +58,8 @@ stay_is out a words false h k e =
     let same : (a + 1) + (draw (out - 1) words).0 ≡ k = cc in
     (refl, omega (arith, same), omega (arith, same, low))
 
-pub stay_fits : (n a : ℕ) (size : StringSize) (words : Lcg) → IsSizeIn n size → (k : ℕ) → (drawn_stay size a words).0 ≡ Some k → (a < k) × (k + 1 < a + (size.out + size.kept))
+pub stay_fits : (n a : ℕ) (size : StringSize) (words : Lcg) → IsSizeIn n size → (k : ℕ)
+    → (drawn_stay size a words).0 ≡ Some k → (a < k) × (k + 1 < a + (size.out + size.kept))
 stay_fits n a size words fits k e =
     let kept : (size.kept == 0) ≡ false → 0 < size.kept = λ h. positive size.kept h in
     let r = stay_is size.out a words (size.kept == 0) (λ h. (fits.kept (kept h)).1) k e in

@@ -47,16 +47,19 @@ pub record AreKeysSoFar (model : Model) (n : ℕ) (keys : List ItemKey) : Type 0
   pub all : keys ≡ map (item_key model) (items_below model n)
   pub few : length keys ≤ n
 
-pub keys_put : (model : Model) (n : ℕ) (keys : List ItemKey) (key : ItemKey) → AreKeysSoFar model n keys → key ∷ [] ≡ map (item_key model) (item_of model n) → AreKeysSoFar model (n + 1) (keys ++ key ∷ [])
+pub keys_put : (model : Model) (n : ℕ) (keys : List ItemKey) (key : ItemKey) → AreKeysSoFar model n keys
+    → key ∷ [] ≡ map (item_key model) (item_of model n) → AreKeysSoFar model (n + 1) (keys ++ key ∷ [])
 keys_put model n keys key before is =
     let long = length-append keys (key ∷ []) in
     let few = before.few in
     record {
-      all = ap₂ (λ xs ys. xs ++ ys) before.all is ∙ sym (map-append (item_key model) (items_below model n) (item_of model n)) ∙ sym (ap (map (item_key model)) (items_below-more model n));
+      all = ap₂ (λ xs ys. xs ++ ys) before.all is ∙ sym (map-append (item_key model) (items_below model n) (item_of model n))
+          ∙ sym (ap (map (item_key model)) (items_below-more model n));
       few = omega (arith, long, few);
     }
 
-pub keys_left : (model : Model) (n : ℕ) (keys : List ItemKey) → AreKeysSoFar model n keys → [] ≡ map (item_key model) (item_of model n) → AreKeysSoFar model (n + 1) keys
+pub keys_left : (model : Model) (n : ℕ) (keys : List ItemKey) → AreKeysSoFar model n keys
+    → [] ≡ map (item_key model) (item_of model n) → AreKeysSoFar model (n + 1) keys
 keys_left model n keys before is =
     let few = before.few in
     record {
@@ -81,11 +84,13 @@ class_free model node g is past =
     sym (ap (λ b. cond b (cond (must_fill model node) 1 2) 0) none)
 
 -- a node of a group
-pub class_in : (model : Model) → IsWellFormed model → (node g : ℕ) (group : Group) (free : Bool) → g ≡ group_number model node → g < length model.groups → group_at model g ≡ group
+pub class_in : (model : Model) → IsWellFormed model → (node g : ℕ) (group : Group) (free : Bool)
+    → g ≡ group_number model node → g < length model.groups → group_at model g ≡ group
     → free ≡ not (is_penalty_given group.penalty) → cond free 1 2 ≡ node_class model node
 class_in model well_formed node g group free is low at free_is =
     let within : group_number model node < length model.groups = omega (arith, is, low) in
-    let grouped : is_grouped model node ≡ true = any_number (λ (group : Group). holds group.nodes node) model.groups ∙ within_test (group_number model node) (length model.groups) within in
+    let grouped : is_grouped model node ≡ true = any_number (λ (group : Group). holds group.nodes node) model.groups
+    ∙ within_test (group_number model node) (length model.groups) within in
     let needed : must_fill model node ≡ free =
     needed-number model.groups node (times_of_distinct (each model.groups nodes_in) well_formed.no_node_in_groups_twice node) within
     ∙ ap (λ k. not (is_penalty_given (group_at model k).penalty)) (sym is) ∙ ap (λ (q : Group). not (is_penalty_given q.penalty)) at ∙ sym free_is in

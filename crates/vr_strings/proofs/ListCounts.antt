@@ -37,7 +37,8 @@ cond_most : (b : Bool) (m n v : ℕ) → m ≡ cond b n (n + 1) → n ≤ v → 
 cond_most true m n v e low = omega (arith, e, low)
 cond_most false m n v e low = omega (arith, e, low)
 
-pub counts_more : (lists : List (List ℕ)) (v active used long more next : ℕ) → AreCounts lists v active used → v < length lists → long ≡ length (route lists v) → long ≤ 1000
+pub counts_more : (lists : List (List ℕ)) (v active used long more next : ℕ)
+    → AreCounts lists v active used → v < length lists → long ≡ length (route lists v) → long ≤ 1000
     → more ≡ active + long → next ≡ cond (long == 0) used (used + 1) → AreCounts lists (v + 1) more next
 counts_more lists v active used long more next before low is few more_is next_is =
     let front = ap active_count (take_more lists v [] low) ∙ count_joined (take v lists) (route lists v) in
@@ -48,12 +49,14 @@ counts_more lists v active used long more next before low is few more_is next_is
     let empty : (long == 0) ≡ is_empty (route lists v) = ap (λ n. n == 0) is ∙ empty_test (route lists v) in
     record {
       active_is = omega (arith, front, active_is, more_is, is);
-      used_is = next_is ∙ ap₂ (λ b n. cond b n (n + 1)) empty before.used_is ∙ sym (length_put (is_empty (route lists v)) (filter p (below v)) v) ∙ sym (ap length grown);
+      used_is = next_is ∙ ap₂ (λ b n. cond b n (n + 1)) empty before.used_is
+          ∙ sym (length_put (is_empty (route lists v)) (filter p (below v)) v) ∙ sym (ap length grown);
       active_few = omega (arith, active_few, more_is, few);
       used_few = cond_most (long == 0) next used v next_is before.used_few;
     }
 
-pub counts_all : (lists : List (List ℕ)) (v active used : ℕ) → AreCounts lists v active used → v ≡ length lists → (active ≡ active_count lists) × (used ≡ length (used_vehicles lists))
+pub counts_all : (lists : List (List ℕ)) (v active used : ℕ) → AreCounts lists v active used
+    → v ≡ length lists → (active ≡ active_count lists) × (used ≡ length (used_vehicles lists))
 counts_all lists v active used counts end = (
   counts.active_is ∙ ap active_count (take_all v lists (omega (arith, end))),
   counts.used_is ∙ ap (λ n. length (filter (λ w. not (is_empty (route lists w))) (below n))) end,

@@ -36,7 +36,8 @@ held_in : (xs : List ℕ) (a b x k : ℕ) → b ≤ length xs → a ≤ k → k 
 held_in xs a b x k within from to found =
     let long = range_length xs a b within in
     let there : a + (k - a) ≡ k = omega (arith, from) in
-    held_at (slice_range xs a b) x (k - a) (omega (arith, long, from, to)) (in_range xs a b (k - a) (omega (arith, from, to)) ∙ ap (slice_index xs) there ∙ found)
+    held_at (slice_range xs a b) x (k - a) (omega (arith, long, from, to))
+    (in_range xs a b (k - a) (omega (arith, from, to)) ∙ ap (slice_index xs) there ∙ found)
 
 -- ---- the nodes of a string
 
@@ -98,7 +99,8 @@ module _ (lists : List (List ℕ)) (v : ℕ) (string : StringPlaces) (node : ℕ
   within_of is = is.to
 
   -- a node in no list is taken out of none
-  pub none_taken : v < length lists → IsStringIn (length (route lists v)) string → is_active lists node ≡ false → false ≡ holds (gone_of (route lists v) string) node
+  pub none_taken : v < length lists → IsStringIn (length (route lists v)) string
+      → is_active lists node ≡ false → false ≡ holds (gone_of (route lists v) string) node
   none_taken vehicle is nowhere = sym (fails (holds (gone_of (route lists v) string) node) (λ held.
       let p = place_taken (route lists v) string.first (string.first + string.width) string.stays node is.to is.stays held in
       let to = p.1.to in

@@ -78,8 +78,10 @@ module _ (model : Model) (parameters : Parameters) (lists : List (List ℕ)) (st
   pub events_are : (r : TabuRound) → next_of model parameters lists state ≡ r → events r ≡ next_events model parameters lists state
   events_are r h = ap events (sym h)
 
-  goes : (state.at.found == parameters.limit.solutions) ≡ false → (r : TabuRound) → next_of model parameters lists state ≡ r → here ≡ behind (next_events model parameters lists state) (left r)
-  goes more r h = on_round model parameters (tabus_of state.tabus) lists state.best.routes.lists state.at.used state.at.found more r h ∙ ap (λ es. behind es (left r)) (events_are r h)
+  goes : (state.at.found == parameters.limit.solutions) ≡ false → (r : TabuRound)
+      → next_of model parameters lists state ≡ r → here ≡ behind (next_events model parameters lists state) (left r)
+  goes more r h = on_round model parameters (tabus_of state.tabus) lists state.best.routes.lists state.at.used state.at.found more r h
+      ∙ ap (λ es. behind es (left r)) (events_are r h)
 
   -- what is left after the round in hand
   abbrev pub left_behind : Outcome
@@ -90,7 +92,8 @@ module _ (model : Model) (parameters : Parameters) (lists : List (List ℕ)) (st
   on_next more = goes more (next_of model parameters lists state) refl
 
   -- the best candidate was made
-  pub after_best : (state.at.found == parameters.limit.solutions) ≡ false → (k : ℕ) (mv : Move) → next_of model parameters lists state ≡ Best k mv → (new : State) (after : List (List ℕ))
+  pub after_best : (state.at.found == parameters.limit.solutions) ≡ false → (k : ℕ) (mv : Move)
+      → next_of model parameters lists state ≡ Best k mv → (new : State) (after : List (List ℕ))
       → tabus_of new.tabus ≡ next_round model parameters.tenure lists (apply model lists mv) (tabus_of state.tabus) → after ≡ apply model lists mv
       → new.best.routes.lists ≡ cheaper model state.best.routes.lists (apply model lists mv) → new.at ≡ after_move model lists mv k state.at
       → here ≡ behind (next_events model parameters lists state) (tabu_from_state model parameters after new)
@@ -99,7 +102,8 @@ module _ (model : Model) (parameters : Parameters) (lists : List (List ℕ)) (st
       (sym (ap (λ t. tabu_from_here model parameters t after new.best.routes.lists new.at.used new.at.found) same_tabus
       ∙ (ap (λ l. tabu_from_here model parameters next l new.best.routes.lists new.at.used new.at.found) same_lists
       ∙ (ap (λ b. tabu_from_here model parameters next (apply model lists mv) b new.at.used new.at.found) same_best
-      ∙ ap (λ (p : Progress). tabu_from_here model parameters next (apply model lists mv) (cheaper model state.best.routes.lists (apply model lists mv)) p.used p.found) same_at))))
+      ∙ ap (λ (p : Progress). tabu_from_here model parameters next (apply model lists mv)
+      (cheaper model state.best.routes.lists (apply model lists mv)) p.used p.found) same_at))))
     where
       next : TabuList
       next = next_round model parameters.tenure lists (apply model lists mv) (tabus_of state.tabus)
@@ -112,7 +116,9 @@ module _ (model : Model) (parameters : Parameters) (lists : List (List ℕ)) (st
   -- the tries ran out
   pub after_cut : (state.at.found == parameters.limit.solutions) ≡ false → next_of model parameters lists state ≡ Cut → state.at.used ≤ parameters.limit.tries
       → here ≡ behind (next_events model parameters lists state) (ended (standing lists state.best.routes.lists parameters.limit.tries state.at.found) Tries)
-  after_cut more h low = goes more Cut h ∙ ap (λ k. behind (next_events model parameters lists state) (ended (standing lists state.best.routes.lists k state.at.found) Tries)) (all parameters.limit.tries state.at.used low)
+  after_cut more h low = goes more Cut h
+      ∙ ap (λ k. behind (next_events model parameters lists state) (ended (standing lists state.best.routes.lists k state.at.found) Tries))
+      (all parameters.limit.tries state.at.used low)
     where
       all : (tries used : ℕ) → used ≤ tries → used + (tries - used) ≡ tries
       all tries used low = omega (arith, low)

@@ -17,21 +17,27 @@ module _ (model : Model) (first : List (List ℕ)) (limit : Limit) (tenure : ℕ
   abbrev IsSoundBy : ℕ → Type 0
   IsSoundBy = SoundBy model first limit (tabu_from model limit tenure)
 
-  goes_on : (rounds : ℕ) (tabus : TabuList) (state : SearchState) → IsSoundState model first limit state → (state.found == limit.solutions) ≡ false → IsSoundBy rounds
+  goes_on : (rounds : ℕ) (tabus : TabuList) (state : SearchState)
+      → IsSoundState model first limit state → (state.found == limit.solutions) ≡ false → IsSoundBy rounds
       → (r : TabuRound) → round_of model tabus state.best state.lists (limit.tries - state.used) ≡ r
       → IsSoundAnswer model first limit (tabu_on model limit tenure (tabu_from model limit tenure rounds) tabus state r)
   goes_on rounds tabus state sound more again (Best n mv) h =
       let known = best_where model tabus state.best state.lists (limit.tries - state.used) n mv h in
-      sound_told model first limit _ _ (again (next_round model tenure state.lists (apply model state.lists mv) tabus) (accepted model state n mv) (sound_accepted model first limit state n mv sound known.within more known.valid))
+      sound_told model first limit _ _
+      (again (next_round model tenure state.lists (apply model state.lists mv) tabus) (accepted model state n mv)
+      (sound_accepted model first limit state n mv sound known.within more known.valid))
   goes_on rounds tabus state sound more again (Stuck n) h =
-      sound_end model first limit (tried state n) _ (sound_tried model first limit state n sound (stuck_where model tabus state.best state.lists (limit.tries - state.used) n h))
+      sound_end model first limit (tried state n) _
+      (sound_tried model first limit state n sound (stuck_where model tabus state.best state.lists (limit.tries - state.used) n h))
   goes_on rounds tabus state sound more again Cut h =
-      sound_end model first limit (tried state (limit.tries - state.used)) _ (sound_tried model first limit state (limit.tries - state.used) sound (omega arith))
+      sound_end model first limit (tried state (limit.tries - state.used)) _
+      (sound_tried model first limit state (limit.tries - state.used) sound (omega arith))
 
   sound_from : (rounds : ℕ) → IsSoundBy rounds
   unfolding tabu_from
   sound_from = sound_by_rounds model first limit (tabu_from model limit tenure)
-      (λ tabus state sound. sound_end model first limit state _ sound) (λ rounds tabus state sound e. rw (e, tabu_from) (sound_end model first limit state _ sound))
+      (λ tabus state sound. sound_end model first limit state _ sound)
+      (λ rounds tabus state sound e. rw (e, tabu_from) (sound_end model first limit state _ sound))
       (λ rounds tabus state sound e again. rw (e, tabu_from) (goes_on rounds tabus state sound e again _ refl))
 
 pub tabu_is_sound : TabuIsSound

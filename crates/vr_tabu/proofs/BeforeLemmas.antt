@@ -20,7 +20,8 @@ behind x xs zero = refl
 behind x xs (suc k) = refl
 
 -- where no visit stands twice, a visit of a list comes behind the place before it
-pub before_at : (origin : ℕ) (list : List ℕ) (k : ℕ) → k < length list → IsTrue (is_distinct list) → node_just_before origin list (slice_index list k) ≡ Some (before_place origin list k)
+pub before_at : (origin : ℕ) (list : List ℕ) (k : ℕ) → k < length list → IsTrue (is_distinct list)
+    → node_just_before origin list (slice_index list k) ≡ Some (before_place origin list k)
 before_at origin [] k low d = absurd (omega (arith, low))
 before_at origin (x ∷ xs) zero low d = ap (λ b. cond b (Some origin) (node_just_before x xs x)) (test_of_eq x x refl)
 before_at origin (x ∷ xs) (suc k) low d =
@@ -28,14 +29,17 @@ before_at origin (x ∷ xs) (suc k) low d =
     ∙ (before_at x xs k (omega (arith, low)) (and_right (not (holds xs x)) (is_distinct xs) d) ∙ ap (λ y. Some y) (behind x xs k))
   where
     other : (x == slice_index xs k) ≡ false
-    other = apart x (slice_index xs k) (λ same. clash (holds xs x) (held_at xs x k (omega (arith, low)) (sym same)) (fails_not (holds xs x) (and_left (not (holds xs x)) (is_distinct xs) d)))
+    other = apart x (slice_index xs k)
+        (λ same. clash (holds xs x) (held_at xs x k (omega (arith, low)) (sym same)) (fails_not (holds xs x) (and_left (not (holds xs x)) (is_distinct xs) d)))
 
 -- the first place, and a later one
-pub before_first : (origin : ℕ) (list : List ℕ) (k : ℕ) → k < length list → IsTrue (is_distinct list) → k ≡ 0 → Some origin ≡ node_just_before origin list (slice_index list k)
+pub before_first : (origin : ℕ) (list : List ℕ) (k : ℕ) → k < length list → IsTrue (is_distinct list)
+    → k ≡ 0 → Some origin ≡ node_just_before origin list (slice_index list k)
 before_first origin list zero low d e = sym (before_at origin list 0 low d)
 before_first origin list (suc k) low d e = absurd (omega (arith, e))
 
-pub before_later : (origin : ℕ) (list : List ℕ) (k : ℕ) → k < length list → IsTrue (is_distinct list) → 0 < k → Some (slice_index list (k - 1)) ≡ node_just_before origin list (slice_index list k)
+pub before_later : (origin : ℕ) (list : List ℕ) (k : ℕ) → k < length list → IsTrue (is_distinct list)
+    → 0 < k → Some (slice_index list (k - 1)) ≡ node_just_before origin list (slice_index list k)
 before_later origin list zero low d some = absurd (omega (arith, some))
 before_later origin list (suc k) low d some = ap (λ i. Some (slice_index list i)) (omega arith) ∙ sym (before_at origin list (suc k) low d)
 
@@ -47,7 +51,8 @@ before_none origin (x ∷ xs) visit h =
     ∙ before_none x xs visit (or-false_right (visit == x) (holds xs visit) h)
 
 -- a visit that stands in neither list is not changed
-pub unchanged_where_absent : (start : ℕ) (old new : List ℕ) (visit : ℕ) → holds old visit ≡ false → holds new visit ≡ false → is_changed_in start old new visit ≡ false
+pub unchanged_where_absent : (start : ℕ) (old new : List ℕ) (visit : ℕ)
+    → holds old visit ≡ false → holds new visit ≡ false → is_changed_in start old new visit ≡ false
 unchanged_where_absent start old new visit h g =
     ap (λ a. not (is_same_node a (node_just_before start new visit))) (before_none start old visit h)
     ∙ ap (λ a. not (is_same_node None a)) (before_none start new visit g)
@@ -71,7 +76,8 @@ absent_where_inactive lists visit v none there = fails (holds (route lists v) vi
     clash (is_active lists visit) (active_at lists visit v at.0 there at.1 at.2) none
 
 -- that of a vehicle, where the visit stands in another list
-pub absent_where_elsewhere : (lists : List (List ℕ)) (visit v w k : ℕ) → IsOnce lists → IsSeat lists visit w k → v < length lists → (w ≡ v → ⊥) → holds (route lists v) visit ≡ false
+pub absent_where_elsewhere : (lists : List (List ℕ)) (visit v w k : ℕ) → IsOnce lists
+    → IsSeat lists visit w k → v < length lists → (w ≡ v → ⊥) → holds (route lists v) visit ≡ false
 absent_where_elsewhere lists visit v w k once seat there other = fails (holds (route lists v) visit) λ held.
     let at = place_of_held (route lists v) visit held in
     other (once visit w k v at.0 seat (record { vehicle = there; place = at.1; found = at.2 })).0

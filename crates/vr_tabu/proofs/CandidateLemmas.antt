@@ -1,5 +1,6 @@
 -- The best candidate so far, and one move more.
-use Rattle.std.proofs.Common.{◌≡◌, ◌∙◌, ℕ, Bool, true, false, cond, not, List, [], ◌∷◌, Option, Some, None, refl, sym, ap, ap₂, subst, arith, inl, inr, w64, to_z, of_z}
+use Rattle.std.proofs.Common.{◌≡◌, ◌∙◌, ℕ, Bool, true, false, cond, not, List, [], ◌∷◌, Option, Some, None, refl, sym, ap, ap₂, subst, arith, inl, inr, w64}
+use Rattle.std.proofs.Common.{to_z, of_z}
 use Rattle.std.proofs.lemmas.Int.{ints}
 use Rattle.std.specs.Prelude.{ℤ, pos, ◌-◌, ◌^◌, ◌-ℤ◌, ◌≤ℤ◌, int_lt, int_le, ◌&&◌, ◌||◌, IsTrue, IfSome}
 use Rattle.std.specs.List.{list_all}
@@ -47,7 +48,8 @@ at_least : (least a b : ℤ) → IsTrue (int_le a least) → least ≤ℤ b → 
 at_least least a b h low = let le = le_of_test a least h in Prim.grind (arith, ints, le, low)
 
 -- a move that makes no less of a difference than a bound
-pub no_less_passed : (model : Model) (lists : List (List ℕ)) (bound : ℤ) (mv : Move) → IsNoLess model lists mv bound → IsPassedInRound model lists (Some bound) mv
+pub no_less_passed : (model : Model) (lists : List (List ℕ)) (bound : ℤ) (mv : Move)
+    → IsNoLess model lists mv bound → IsPassedInRound model lists (Some bound) mv
 no_less_passed model lists bound mv h one valid = by bound (cost_change model lists mv) (h one valid)
   where
     by : (a b : ℤ) → a ≤ℤ b → IsTrue (int_le a b)
@@ -68,19 +70,23 @@ module _ (model : Model) (tabus : TabuList) (best lists : List (List ℕ)) where
   valid_after mv = is_valid model (after mv)
 
   -- a move that is no candidate
-  not_candidate : (found : Option Candidate) (mv : Move) → is_candidate model tabus best lists mv ≡ false → move_of found ≡ better_with model tabus best lists (move_of found) mv
+  not_candidate : (found : Option Candidate) (mv : Move) → is_candidate model tabus best lists mv ≡ false
+      → move_of found ≡ better_with model tabus best lists (move_of found) mv
   not_candidate found mv e = sym (ap (λ b. cond b (better key (move_of found) mv) (move_of found)) e)
 
   -- a move that is no better than the best candidate so far
-  pub dearer : (found : Option Candidate) (ceiling : Option ℤ) (mv : Move) → IfSome found (IsDifferenceKnown model lists) → IsCeiling model tabus best lists ceiling → IsNoBetter model lists mv (bound_of found ceiling)
+  pub dearer : (found : Option Candidate) (ceiling : Option ℤ) (mv : Move) → IfSome found (IsDifferenceKnown model lists)
+      → IsCeiling model tabus best lists ceiling → IsNoBetter model lists mv (bound_of found ceiling)
       → move_of found ≡ better_with model tabus best lists (move_of found) mv
   dearer found ceiling mv known low worse = by (is_candidate model tabus best lists mv) refl
     where
-      kept : (found : Option Candidate) → IfSome found (IsDifferenceKnown model lists) → is_candidate model tabus best lists mv ≡ true → IsTrue (is_no_less (bound_of found ceiling) (cost_change model lists mv))
+      kept : (found : Option Candidate) → IfSome found (IsDifferenceKnown model lists)
+          → is_candidate model tabus best lists mv ≡ true → IsTrue (is_no_less (bound_of found ceiling) (cost_change model lists mv))
           → move_of found ≡ better key (move_of found) mv
       kept None known one h = absurd (clash (is_candidate model tabus best lists mv) one (low mv h))
       kept (Some c) known one h =
-          let less : int_lt (cost model (after mv)) (cost model (after c.mv)) ≡ false = not_below (cost model (after c.mv)) (cost model lists) (cost model (after mv)) (cost_change model lists mv)
+          let less : int_lt (cost model (after mv)) (cost model (after c.mv)) ≡ false = not_below (cost model (after c.mv))
+          (cost model lists) (cost model (after mv)) (cost_change model lists mv)
           (subst (λ d. IsTrue (int_le d (cost_change model lists mv))) known h) (omega (arith, ints)) in
           sym (ap (λ b. Some (cond b mv c.mv)) (lex_one (cost model (after mv)) (cost model (after c.mv)) ∙ less))
 
@@ -89,12 +95,14 @@ module _ (model : Model) (tabus : TabuList) (best lists : List (List ℕ)) where
       by true e = kept found known e (worse (and_left (valid_after mv) _ e)) ∙ sym (ap (λ b. cond b (better key (move_of found) mv) (move_of found)) e)
 
   -- a least difference that is not below a bound
-  pub no_better_by : (bound : Option ℤ) (mv : Move) (least : ℤ) → IsDifferenceBound model lists mv least → IsTrue (is_no_less bound least) → IsNoBetter model lists mv bound
+  pub no_better_by : (bound : Option ℤ) (mv : Move) (least : ℤ) → IsDifferenceBound model lists mv least
+      → IsTrue (is_no_less bound least) → IsNoBetter model lists mv bound
   no_better_by None mv least low h = absurd (clash false h refl)
   no_better_by (Some c) mv least low h = λ valid. at_least least c (cost_change model lists mv) h (low valid)
 
   -- a tabu move that leads to lists that cost no less than the best
-  forbidden : (mv : Move) (least : ℤ) → IsDifferenceBound model lists mv least → is_tabu model tabus lists (after mv) ≡ true → IsTrue (int_le (aspiration model best lists) least) → is_candidate model tabus best lists mv ≡ false
+  forbidden : (mv : Move) (least : ℤ) → IsDifferenceBound model lists mv least → is_tabu model tabus lists (after mv) ≡ true
+      → IsTrue (int_le (aspiration model best lists) least) → is_candidate model tabus best lists mv ≡ false
   forbidden mv least low tabu h = by (valid_after mv) refl
     where
       by : (b : Bool) → valid_after mv ≡ b → (b && (not (is_tabu model tabus lists (after mv)) || int_lt (cost model (after mv)) (cost model best))) ≡ false
@@ -102,10 +110,12 @@ module _ (model : Model) (tabus : TabuList) (best lists : List (List ℕ)) where
       by true e = ap₂ (λ t l. not t || l) tabu (not_below (cost model best) (cost model lists) (cost model (after mv)) least h (low e))
 
   -- a move that is refused
-  pub refused : (found : Option Candidate) (mv : Move) → Refused ≡ verdict_of model lists mv → move_of found ≡ better_with model tabus best lists (move_of found) mv
+  pub refused : (found : Option Candidate) (mv : Move) → Refused ≡ verdict_of model lists mv
+      → move_of found ≡ better_with model tabus best lists (move_of found) mv
   refused found mv told = not_candidate found mv (by (valid_after mv) told)
     where
-      by : (b : Bool) → Refused ≡ cond b (Difference (cost_change model lists mv)) Refused → (b && (not (is_tabu model tabus lists (after mv)) || int_lt (cost model (after mv)) (cost model best))) ≡ false
+      by : (b : Bool) → Refused ≡ cond b (Difference (cost_change model lists mv)) Refused
+          → (b && (not (is_tabu model tabus lists (after mv)) || int_lt (cost model (after mv)) (cost model best))) ≡ false
       by true e = absurd cc
       by false e = refl
 
@@ -126,46 +136,58 @@ module _ (model : Model) (tabus : TabuList) (best lists : List (List ℕ)) where
 
   -- a tabu move that leads to lists that cost no less than the best before
   pub kept_out : (found : Option Candidate) (mv : Move) (difference : ℤ) → Difference difference ≡ verdict_of model lists mv
-      → (int_le (aspiration model best lists) difference && is_tabu model tabus lists (after mv)) ≡ true → move_of found ≡ better_with model tabus best lists (move_of found) mv
+      → (int_le (aspiration model best lists) difference && is_tabu model tabus lists (after mv)) ≡ true
+      → move_of found ≡ better_with model tabus best lists (move_of found) mv
   kept_out found mv difference told h = not_candidate found mv
-      (forbidden mv difference (least_itself mv difference (difference_known mv difference told)) (and_right (int_le (aspiration model best lists) difference) _ h) (and_left _ (is_tabu model tabus lists (after mv)) h))
+      (forbidden mv difference (least_itself mv difference (difference_known mv difference told))
+      (and_right (int_le (aspiration model best lists) difference) _ h) (and_left _ (is_tabu model tabus lists (after mv)) h))
 
   -- a move that is taken
-  pub taken : (found : Option Candidate) (ceiling : Option ℤ) (mv : Move) (difference : ℤ) → IfSome found (IsDifferenceKnown model lists) → Difference difference ≡ verdict_of model lists mv
-      → is_no_less (bound_of found ceiling) difference ≡ false → (int_le (aspiration model best lists) difference && is_tabu model tabus lists (after mv)) ≡ false
+  pub taken : (found : Option Candidate) (ceiling : Option ℤ) (mv : Move) (difference : ℤ)
+      → IfSome found (IsDifferenceKnown model lists) → Difference difference ≡ verdict_of model lists mv
+      → is_no_less (bound_of found ceiling) difference ≡ false
+      → (int_le (aspiration model best lists) difference && is_tabu model tabus lists (after mv)) ≡ false
       → Some mv ≡ better_with model tabus best lists (move_of found) mv
   taken found ceiling mv difference known told better_ open_ =
       let is = differs (valid_after mv) told in
-      sym (ap (λ b. cond b (better key (move_of found) mv) (move_of found)) (is_one is.0 (subst (λ d. (int_le (aspiration model best lists) d && is_tabu model tabus lists (after mv)) ≡ false) is.1 open_))
+      sym (ap (λ b. cond b (better key (move_of found) mv) (move_of found))
+      (is_one is.0 (subst (λ d. (int_le (aspiration model best lists) d && is_tabu model tabus lists (after mv)) ≡ false) is.1 open_))
       ∙ better_one found known (subst (λ d. is_no_less (bound_of found ceiling) d ≡ false) is.1 better_))
     where
-      differs : (b : Bool) → Difference difference ≡ cond b (Difference (cost_change model lists mv)) Refused → (b ≡ true) × (difference ≡ cost_change model lists mv)
+      differs : (b : Bool) → Difference difference ≡ cond b (Difference (cost_change model lists mv)) Refused
+          → (b ≡ true) × (difference ≡ cost_change model lists mv)
       differs true e = (refl, Prim.cc)
       differs false e = absurd (no e)
         where
           no : Difference difference ≡ Refused → ⊥
           no e = Prim.cc
 
-      is_one : valid_after mv ≡ true → (int_le (aspiration model best lists) (cost_change model lists mv) && is_tabu model tabus lists (after mv)) ≡ false → is_candidate model tabus best lists mv ≡ true
+      is_one : valid_after mv ≡ true → (int_le (aspiration model best lists) (cost_change model lists mv) && is_tabu model tabus lists (after mv)) ≡ false
+          → is_candidate model tabus best lists mv ≡ true
       is_one valid free = ap₂ (λ v rest. v && rest) valid (by (is_tabu model tabus lists (after mv)) refl)
         where
           left_false : (a b : Bool) → b ≡ true → (a && b) ≡ false → a ≡ false
           left_false true b e f = absurd (clash b e f)
           left_false false b e f = refl
 
-          by : (t : Bool) → is_tabu model tabus lists (after mv) ≡ t → (not (is_tabu model tabus lists (after mv)) || int_lt (cost model (after mv)) (cost model best)) ≡ true
-          by true e = ap₂ (λ a l. not a || l) e (below (cost model best) (cost model lists) (cost model (after mv)) (cost_change model lists mv) (left_false _ _ e free))
+          by : (t : Bool) → is_tabu model tabus lists (after mv) ≡ t
+              → (not (is_tabu model tabus lists (after mv)) || int_lt (cost model (after mv)) (cost model best)) ≡ true
+          by true e = ap₂ (λ a l. not a || l) e
+              (below (cost model best) (cost model lists) (cost model (after mv)) (cost_change model lists mv) (left_false _ _ e free))
           by false e = ap (λ a. not a || int_lt (cost model (after mv)) (cost model best)) e
 
-      better_one : (found : Option Candidate) → IfSome found (IsDifferenceKnown model lists) → is_no_less (bound_of found ceiling) (cost_change model lists mv) ≡ false → better key (move_of found) mv ≡ Some mv
+      better_one : (found : Option Candidate) → IfSome found (IsDifferenceKnown model lists)
+          → is_no_less (bound_of found ceiling) (cost_change model lists mv) ≡ false → better key (move_of found) mv ≡ Some mv
       better_one None known h = refl
       better_one (Some c) known h =
-          let less : int_lt (cost model (after mv)) (cost model (after c.mv)) ≡ true = below (cost model (after c.mv)) (cost model lists) (cost model (after mv)) (cost_change model lists mv)
+          let less : int_lt (cost model (after mv)) (cost model (after c.mv)) ≡ true = below (cost model (after c.mv))
+          (cost model lists) (cost model (after mv)) (cost_change model lists mv)
           (subst (λ d. int_le d (cost_change model lists mv) ≡ false) known h) in
           ap (λ b. Some (cond b mv c.mv)) (lex_one (cost model (after mv)) (cost model (after c.mv)) ∙ less)
 
   -- a difference that the judge tells fits 64 bits
-  pub fits_change : (mv : Move) (difference : ℤ) → IsWellFormed model → IsTrue (is_valid model lists) → Difference difference ≡ verdict_of model lists mv → to_z w64 (of_z w64 difference) ≡ difference
+  pub fits_change : (mv : Move) (difference : ℤ) → IsWellFormed model → IsTrue (is_valid model lists)
+      → Difference difference ≡ verdict_of model lists mv → to_z w64 (of_z w64 difference) ≡ difference
   fits_change mv difference well valid told =
       let before = costs_are_bounded model well lists valid in
       let later = costs_are_bounded model well (after mv) (valid_one (valid_after mv) told) in
@@ -201,6 +223,7 @@ module _ (model : Model) (tabus : TabuList) (best lists : List (List ℕ)) where
   no_ceiling mv h = absurd (clash false h refl)
 
 -- the cost of the lists and that of the best ones so far are bounded
-pub both_bounded : (model : Model) (routes : Tours) (state : State) → IsKnownState model routes state → HasBoundedCost model routes.lists × HasBoundedCost model state.best.routes.lists
+pub both_bounded : (model : Model) (routes : Tours) (state : State) → IsKnownState model routes state
+    → HasBoundedCost model routes.lists × HasBoundedCost model state.best.routes.lists
 both_bounded model routes state known =
     (costs_are_bounded model known.well_formed routes.lists known.valid, costs_are_bounded model known.well_formed state.best.routes.lists known.best.valid)

@@ -56,7 +56,8 @@ changed_stands list visit c = by (holds list.new visit) (holds list.old visit) r
     by false false e f = absurd (clash (changes list visit) c (unchanged_where_absent list.start list.old list.new visit f e))
 
 -- a change of one list frees a visit that it changes and that is not tabu
-pub frees_where : (tabus : TabuList) (list : OldAndNew) (visit : ℕ) → is_tabu_visit tabus visit ≡ false → IsTrue (changes list visit) → IsTrue (frees tabus list)
+pub frees_where : (tabus : TabuList) (list : OldAndNew) (visit : ℕ)
+    → is_tabu_visit tabus visit ≡ false → IsTrue (changes list visit) → IsTrue (frees tabus list)
 frees_where tabus list visit free c = elim (or_cases (holds list.new visit) _ (changed_stands list visit c)) [
   | inl new ↦ or_left (list_any (is_freed tabus list) list.new) _ (in_any (is_freed tabus list) list.new visit new freed)
   | inr old ↦ or_right (list_any (is_freed tabus list) list.new) _ (in_any (is_freed tabus list) list.old visit old freed)
@@ -133,7 +134,8 @@ module _ (model : Model) (lists : List (List ℕ)) (parts : List ListAfter) (are
   free_by tabus k = frees tabus (change_of model lists parts k)
 
   -- a change is tabu where no part of it frees a visit
-  pub tabu_by_parts : (tabus : TabuList) → ((k : ℕ) → k < length parts → (visit : ℕ) → (holds (change_of model lists parts k).new visit || holds (change_of model lists parts k).old visit) ≡ true → In (visits model) visit)
+  pub tabu_by_parts : (tabus : TabuList) → ((k : ℕ) → k < length parts → (visit : ℕ)
+      → (holds (change_of model lists parts k).new visit || holds (change_of model lists parts k).old visit) ≡ true → In (visits model) visit)
       → is_tabu model tabus lists after ≡ not (list_any (free_by tabus) (below (length parts)))
   unfolding is_tabu
   tabu_by_parts tabus are_visits = same_tests _ _ to from
@@ -148,12 +150,14 @@ module _ (model : Model) (lists : List (List ℕ)) (parts : List ListAfter) (are
           let k = r.0 in
           let low : k < length parts = (let high = r.2 in omega (arith, high)) in
           let f = freed_where tabus (change_of model lists parts k) r.3 in
-          let changed_one = subst IsTrue (changed_by_parts f.visit) (range_list_any (changed_by f.visit) 0 (length parts) k (omega arith) (omega (arith, low)) f.changed) in
+          let changed_one = subst IsTrue (changed_by_parts f.visit)
+          (range_list_any (changed_by f.visit) 0 (length parts) k (omega arith) (omega (arith, low)) f.changed) in
           clash (is_tabu_visit tabus f.visit) (all_in (is_tabu_visit tabus) (changed_visits model lists after) f.visit h
           (to_filter (is_changed model lists after) (visits model) f.visit (are_visits k low f.visit f.stands) changed_one)) f.free
 
       from : IsTrue (not (list_any (free_by tabus) (below (length parts)))) → IsTrue (list_all (is_tabu_visit tabus) (changed_visits model lists after))
-      from h = in_all (is_tabu_visit tabus) (changed_visits model lists after) λ visit i. by visit (of_filter (is_changed model lists after) (visits model) visit i).1 (is_tabu_visit tabus visit) refl
+      from h = in_all (is_tabu_visit tabus) (changed_visits model lists after)
+          λ visit i. by visit (of_filter (is_changed model lists after) (visits model) visit i).1 (is_tabu_visit tabus visit) refl
         where
           no_more : (b : Bool) → IsTrue (not b) → IsTrue b → ⊥
           no_more true n t = clash false n refl
@@ -164,4 +168,5 @@ module _ (model : Model) (lists : List (List ℕ)) (parts : List ListAfter) (are
           by visit c false e =
               let r = any_place (changed_by visit) 0 (length parts) (subst IsTrue (sym (changed_by_parts visit)) c) in
               absurd (no_more (list_any (free_by tabus) (below (length parts))) h
-              (range_list_any (free_by tabus) 0 (length parts) r.0 (omega arith) (let high = r.2 in omega (arith, high)) (frees_where tabus (change_of model lists parts r.0) visit e r.3)))
+              (range_list_any (free_by tabus) 0 (length parts) r.0 (omega arith) (let high = r.2 in omega (arith, high))
+              (frees_where tabus (change_of model lists parts r.0) visit e r.3)))

@@ -9,7 +9,8 @@ pub held_next : (xs : List ℕ) (k : ℕ) (visit : ℕ) → k < length xs → ho
 held_next xs k visit low = ap (λ ys. holds ys visit) (drop_more xs k 0 low)
 
 -- one visit more
-pub forbid_step : (here rest changes : Bool) (until now : ℕ) → cond (rest && changes) until (cond (here && changes) until now) ≡ cond ((here || rest) && changes) until now
+pub forbid_step : (here rest changes : Bool) (until now : ℕ)
+    → cond (rest && changes) until (cond (here && changes) until now) ≡ cond ((here || rest) && changes) until now
 forbid_step true true true until now = refl
 forbid_step true true false until now = refl
 forbid_step true false true until now = refl
@@ -27,7 +28,8 @@ part_step false true until now = refl
 part_step false false until now = refl
 
 -- the new visits, and then the old ones, where each that is changed is one of either
-pub both_lists : (new old changes : Bool) (until now : ℕ) → (IsTrue changes → (new || old) ≡ true) → cond (old && changes) until (cond (new && changes) until now) ≡ cond changes until now
+pub both_lists : (new old changes : Bool) (until now : ℕ) → (IsTrue changes → (new || old) ≡ true)
+    → cond (old && changes) until (cond (new && changes) until now) ≡ cond changes until now
 both_lists true true true until now stands = refl
 both_lists true true false until now stands = refl
 both_lists true false true until now stands = refl

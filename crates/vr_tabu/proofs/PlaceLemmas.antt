@@ -25,7 +25,8 @@ placed_more list places k x low at within placed j here = by (x == y) refl
         let is : slice_index (slice_set places x k) y ≡ k = subst (λ z. slice_index (slice_set places x k) z ≡ k) same (get_or-set_same places x k 0 within) in
         record { place = omega (arith, is, low); stands = ap (λ i. slice_index list i) is ∙ (at ∙ same) }
     by false e =
-        let is : slice_index (slice_set places x k) y ≡ slice_index places y = get_or-set_other places x y k 0 (λ same. clash (x == y) (test_of_eq x y (sym same)) e) in
+        let is : slice_index (slice_set places x k) y ≡ slice_index places y = get_or-set_other places
+        x y k 0 (λ same. clash (x == y) (test_of_eq x y (sym same)) e) in
         let before = placed j earlier in
         let there = before.place in
         record { place = omega (arith, is, there); stands = ap (λ i. slice_index list i) is ∙ before.stands }
@@ -44,12 +45,17 @@ all_placed list places n high placed x held =
     subst (λ z. IsPlaced list places z) p.2 (placed p.0 (omega (arith, low, high)))
 
 -- a visit that stands at the place that is kept of it
-pub at_kept : (origin : ℕ) (list : List ℕ) (visit place : ℕ) (answer : ℕ) → (nat_lt place (length list) && (slice_index list place == visit)) ≡ true → Some answer ≡ node_just_before origin list (slice_index list place) → Some answer ≡ node_just_before origin list visit
-at_kept origin list visit place answer h e = subst (λ x. Some answer ≡ node_just_before origin list x) (eq_of_test (slice_index list place) visit (and_right (nat_lt place (length list)) (slice_index list place == visit) h)) e
+pub at_kept : (origin : ℕ) (list : List ℕ) (visit place : ℕ) (answer : ℕ) → (nat_lt place (length list) && (slice_index list place == visit)) ≡ true
+    → Some answer ≡ node_just_before origin list (slice_index list place) → Some answer ≡ node_just_before origin list visit
+at_kept origin list visit place answer h e = subst (λ x. Some answer ≡ node_just_before origin list x)
+    (eq_of_test (slice_index list place) visit (and_right (nat_lt place (length list)) (slice_index list place == visit) h)) e
 
 -- a visit that does not stand at the place that is kept of it stands nowhere
-pub not_kept : (origin : ℕ) (list places : List ℕ) (visit : ℕ) → ArePlaced list places → (nat_lt (slice_index places visit) (length list) && (slice_index list (slice_index places visit) == visit)) ≡ false → None ≡ node_just_before origin list visit
+pub not_kept : (origin : ℕ) (list places : List ℕ) (visit : ℕ) → ArePlaced list places
+    → (nat_lt (slice_index places visit) (length list) && (slice_index list (slice_index places visit) == visit)) ≡ false
+    → None ≡ node_just_before origin list visit
 not_kept origin list places visit placed h = sym (before_none origin list visit (fails (holds list visit) λ held.
     let at = placed visit held in
     clash (nat_lt (slice_index places visit) (length list) && (slice_index list (slice_index places visit) == visit))
-    (and_both (nat_lt (slice_index places visit) (length list)) (slice_index list (slice_index places visit) == visit) (test_of_lt (slice_index places visit) (length list) at.place) (test_of_eq (slice_index list (slice_index places visit)) visit at.stands)) h))
+    (and_both (nat_lt (slice_index places visit) (length list)) (slice_index list (slice_index places visit) == visit)
+    (test_of_lt (slice_index places visit) (length list) at.place) (test_of_eq (slice_index list (slice_index places visit)) visit at.stands)) h))

@@ -16,8 +16,10 @@ module _ (model : Model) (parameters : Parameters) (lists : List (List ℕ)) whe
   rest = tabu_from_here model parameters none_tabu lists lists 0 1
 
 -- a state that begins stands where the search begins
-module _ (model : Model) (parameters : Parameters) (routes : Tours) (state : State) (begins : IsTabuBegun model routes (at_first model routes.lists) state) where
-  pub begun_stands : (committed : Tours → Type 0) → HasCommitted model committed routes → 1 ≤ parameters.limit.solutions → TabuStands model parameters committed routes state
+module _ (model : Model) (parameters : Parameters) (routes : Tours) (state : State)
+    (begins : IsTabuBegun model routes (at_first model routes.lists) state) where
+  pub begun_stands : (committed : Tours → Type 0) → HasCommitted model committed routes
+      → 1 ≤ parameters.limit.solutions → TabuStands model parameters committed routes state
   begun_stands committed holds some =
       let found = ap (λ p. p.found) begins.at_is in
       let round = ap (λ t. t.round) begins.none in

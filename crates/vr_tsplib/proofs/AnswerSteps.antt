@@ -21,7 +21,8 @@ unfolding at_line
 at_flaw number e = ap (at_line number) e
 
 -- a line that is not taken is refused
-pub refused : {A : Type 0} {reading : Result A Flaw} (fail : LineFail) (number : ℕ) (e : ReadFail) → AnswersLine {A = A} (Err fail) reading → RefusesLine fail number e → Answers {A = A} (Err e) (at_line number reading)
+pub refused : {A : Type 0} {reading : Result A Flaw} (fail : LineFail) (number : ℕ) (e : ReadFail)
+    → AnswersLine {A = A} (Err fail) reading → RefusesLine fail number e → Answers {A = A} (Err e) (at_line number reading)
 refused (Flawed flaw) number e h k = record {
   value = tt;
   refused = λ fault is. let one : e ≡ Refused fault = cc in at_flaw number (h.flawed flaw refl) ∙ ap Err (sym (k fault one));
@@ -40,7 +41,9 @@ pub changed : {A : Type 0} {a : Result A ReadFail} {r s : Result A Fault} → r 
 changed {A} {a} e h = let P : Result A Fault → Type 0 = λ r. Answers a r in subst P e h
 
 -- the failure of a step is the answer
-pub stops_seen : {A B C : Type 0} {r : Result B Fault} {e : ReadFail} (g : A → C) (a : Result A ReadFail) (f : B → Result C Fault) → Answers {A = B} (Err e) r → IsErrAnd a (λ d. d ≡ e) → Answers (seen g a) (and_then r f)
+pub stops_seen : {A B C : Type 0} {r : Result B Fault} {e : ReadFail} (g : A → C) (a : Result A ReadFail) (f : B → Result C Fault)
+    → Answers {A = B} (Err e) r → IsErrAnd a (λ d. d ≡ e) → Answers (seen g a) (and_then r f)
 unfolding and_then
 stops_seen g (Ok x) f h same = absurd same
-stops_seen {e = e} g (Err d) f h same = record { value = tt; refused = λ fault is. let fails : e ≡ Refused fault = cc in rw (h.refused fault (ap Err fails)) refl }
+stops_seen {e = e} g (Err d) f h same =
+    record { value = tt; refused = λ fault is. let fails : e ≡ Refused fault = cc in rw (h.refused fault (ap Err fails)) refl }

@@ -25,7 +25,9 @@ use Rattle.vr_tsplib.specs.declared.summaries.Problem.{Problem}
 use Rattle.vr_tsplib.specs.Flaws.{at_line, refuse_if}
 use Rattle.vr_tsplib.specs.Texts.{is_empty, words, has_byte}
 use Rattle.vr_tsplib.specs.Numbers.{number, whole_in, count_in}
-use Rattle.vr_tsplib.specs.Heads.{no_head, nodes_of, keep, keep_name, keep_node_coord_type, keep_display_data_type, keep_type, once_number, keep_dimension, keep_capacity, keep_weight_type, keep_weight_format, keyword_parts, begin, begin_sites, begin_weights, begin_demands, begin_depot, weights_left, heading_line, outside_line}
+use Rattle.vr_tsplib.specs.Heads.{no_head, nodes_of, keep, keep_name, keep_node_coord_type, keep_display_data_type, keep_type, once_number, keep_dimension}
+use Rattle.vr_tsplib.specs.Heads.{keep_capacity, keep_weight_type, keep_weight_format, keyword_parts, begin, begin_sites, begin_weights, begin_demands}
+use Rattle.vr_tsplib.specs.Heads.{begin_depot, weights_left, heading_line, outside_line}
 use Rattle.vr_tsplib.specs.Rows.{coordinate, site_row, demand_row, weight, weights_behind, row_behind, depot_row, depot_end}
 use Rattle.vr_tsplib.specs.Files.{start, line_at, sites_line, demands_line, weights_line, head_line, read_line, read_lines, complete}
 use Rattle.vr_tsplib.specs.Ranges.{IsFew, IsHeadInRange, IsLight, IsSiteInRange, IsProblem, AreLinesInRange, IsCountIn}
@@ -56,7 +58,8 @@ either false h k = k
 -- ---- the head
 
 -- another head with the same numbers
-same_numbers : (head other : Head) → IsHeadInRange head → other.nodes ≡ head.nodes → other.capacity ≡ head.capacity → other.depot ≡ head.depot → IsHeadInRange other
+same_numbers : (head other : Head) → IsHeadInRange head → other.nodes ≡ head.nodes
+    → other.capacity ≡ head.capacity → other.depot ≡ head.depot → IsHeadInRange other
 same_numbers head other h n c d = record {
   nodes = subst (WherePresent (IsCountIn 1 1000)) (sym n) h.nodes;
   capacity = subst (WherePresent (IsCountIn 0 68719476736)) (sym c) h.capacity;
@@ -216,7 +219,8 @@ module _ (state : State) (h : AreLinesInRange state) where
       after (row_few left state.weights (words line) h.weights) λ all light.
       gives (record { head = at_place_range _; sites = h.sites; demands = h.demands; weights = light })
 
-  head_sound : (read : Head → List ℕ → Result Head Flaw) (line : List ℕ) → KeepsRange (read state.head line) → Ensures AreLinesInRange (head_line read state line)
+  head_sound : (read : Head → List ℕ → Result Head Flaw) (line : List ℕ)
+      → KeepsRange (read state.head line) → Ensures AreLinesInRange (head_line read state line)
   unfolding head_line
   head_sound read line keeps = after keeps λ head within. gives (with_range state head h within)
 

@@ -1,5 +1,6 @@
 -- Rows of weights, word by word, and the digits of a number, one by one.
-use Rattle.std.proofs.Common.{◌≡◌, ◌∙◌, ℕ, zero, suc, ◌+◌, ◌-◌, ◌*◌, ◌^◌, ◌<◌, ◌≤◌, Bool, true, false, ◌&&◌, List, [], ◌∷◌, ◌++◌, length, Option, Some, None, Result, Ok, Err, refl, sym, ap, ap₂, arith, length-append}
+use Rattle.std.proofs.Common.{◌≡◌, ◌∙◌, ℕ, zero, suc, ◌+◌, ◌-◌, ◌*◌, ◌^◌, ◌<◌, ◌≤◌, Bool, true, false, ◌&&◌, List, [], ◌∷◌, ◌++◌, length, Option, Some, None}
+use Rattle.std.proofs.Common.{Result, Ok, Err, refl, sym, ap, ap₂, arith, length-append}
 use Rattle.std.specs.Prelude.{nat_le, if◌then◌else◌}
 use Rattle.std.specs.List.{list_all}
 use Rattle.std.proofs.Math.Nat.{pow-le-pow_right, pow-suc}
@@ -21,13 +22,15 @@ no_number left word ws e = ap (λ b. (b && list_all is_number ws) && nat_le (len
 one_less : (n left : ℕ) → 0 < left → nat_le (suc n) left ≡ nat_le n (left - 1)
 one_less n left some = Prim.grind arith
 
-pub one_number_more : (left : ℕ) (word : List ℕ) (ws : List (List ℕ)) → is_number word ≡ true → 0 < left → are_numbers left (word ∷ ws) ≡ are_numbers (left - 1) ws
+pub one_number_more : (left : ℕ) (word : List ℕ) (ws : List (List ℕ)) → is_number word ≡ true
+    → 0 < left → are_numbers left (word ∷ ws) ≡ are_numbers (left - 1) ws
 one_number_more left word ws e some =
     ap (λ b. (b && list_all is_number ws) && nat_le (length (word ∷ ws)) left) e ∙ ap (λ b. list_all is_number ws && b) (one_less (length ws) left some)
 
 -- ---- weights behind others
 
-pub one_weight_more : (earlier : List ℕ) (word : List ℕ) (ws : List (List ℕ)) (w : ℕ) → weight word ≡ Ok w → weights_behind earlier (word ∷ ws) ≡ weights_behind (earlier ++ w ∷ []) ws
+pub one_weight_more : (earlier : List ℕ) (word : List ℕ) (ws : List (List ℕ)) (w : ℕ)
+    → weight word ≡ Ok w → weights_behind earlier (word ∷ ws) ≡ weights_behind (earlier ++ w ∷ []) ws
 unfolding weights_behind and_then
 one_weight_more earlier word ws w e = ap (λ r. and_then r (λ w. weights_behind (earlier ++ w ∷ []) ws)) e
 

@@ -1,5 +1,6 @@
 -- The first word of a text, and what stands behind it.
-use Rattle.std.proofs.Common.{◌≡◌, ◌∙◌, ◌⊎◌, inl, inr, ◌==◌, ℕ, zero, suc, ◌+◌, ◌-◌, ◌<◌, ◌≤◌, Bool, true, false, cond, not, ◌||◌, List, [], ◌∷◌, length, take, drop, filter, position, unwrap_or, Some, None, refl, sym, ap, subst, arith}
+use Rattle.std.proofs.Common.{◌≡◌, ◌∙◌, ◌⊎◌, inl, inr, ◌==◌, ℕ, zero, suc, ◌+◌, ◌-◌, ◌<◌, ◌≤◌, Bool, true, false, cond, not, ◌||◌, List, [], ◌∷◌, length, take}
+use Rattle.std.proofs.Common.{drop, filter, position, unwrap_or, Some, None, refl, sym, ap, subst, arith}
 use Rattle.std.specs.Prelude.{nat_lt}
 use Rattle.std.specs.List.{slice_split, onto_first, position_or_len, list_any}
 use Rattle.std.proofs.lemmas.List.{take_all, length-drop}
@@ -51,14 +52,17 @@ has_bytes : (b : ℕ) (word : List ℕ) → is_word (b ∷ word) ≡ true
 has_bytes b word = ap not (ne_eqb (suc (length word)) 0 (λ e. absurd (omega (arith, e))))
 
 -- the first word of a text that begins with one
-pub first_found : (text : List ℕ) → BeginsWord text → 0 < length text → words text ≡ take (position_or_len is_blank text) text ∷ words (drop (position_or_len is_blank text) text)
+pub first_found : (text : List ℕ) → BeginsWord text → 0 < length text
+    → words text ≡ take (position_or_len is_blank text) text ∷ words (drop (position_or_len is_blank text) text)
 unfolding words
 first_found [] h some = absurd (omega (arith, some))
 first_found (b ∷ text) h some =
     let c = cut (b ∷ text) in
     let k : ℕ = position_or_len is_blank (b ∷ text) in
-    let is : is_word (take k (b ∷ text)) ≡ true = ap (λ n. is_word (take n (b ∷ text))) (word_begins b text h) ∙ has_bytes b (take (position_or_len is_blank text) text) in
-    ap (filter is_word) c.is_cut ∙ ap (λ t. cond t (take k (b ∷ text) ∷ filter is_word c.tail) (filter is_word c.tail)) is ∙ ap (λ ws. take k (b ∷ text) ∷ ws) c.behind
+    let is : is_word (take k (b ∷ text)) ≡ true = ap (λ n. is_word (take n (b ∷ text))) (word_begins b text h)
+    ∙ has_bytes b (take (position_or_len is_blank text) text) in
+    ap (filter is_word) c.is_cut ∙ ap (λ t. cond t (take k (b ∷ text) ∷ filter is_word c.tail) (filter is_word c.tail)) is
+    ∙ ap (λ ws. take k (b ∷ text) ∷ ws) c.behind
 
 -- what is left behind it is shorter
 pub left_shorter : (text : List ℕ) → BeginsWord text → 0 < length text → 0 < position_or_len is_blank text
@@ -97,7 +101,8 @@ place_is p xs = by (cases_lt (position_or_len p xs) (length xs))
   where
     by : (position_or_len p xs < length xs) ⊎ (length xs ≤ position_or_len p xs) → unwrap_or (position p xs) (length xs) ≡ position_or_len p xs
     by (inl low) = ap (λ t. unwrap_or (cond t (Some (position_or_len p xs)) None) (length xs)) (lt-ltb (position_or_len p xs) (length xs) low)
-    by (inr high) = ap (λ t. unwrap_or (cond t (Some (position_or_len p xs)) None) (length xs)) (le-ltb (position_or_len p xs) (length xs) high) ∙ omega (arith, high, place_low p xs)
+    by (inr high) = ap (λ t. unwrap_or (cond t (Some (position_or_len p xs)) None) (length xs)) (le-ltb (position_or_len p xs) (length xs) high)
+        ∙ omega (arith, high, place_low p xs)
 
 -- what is left behind the first k bytes
 pub take_rest : (k : ℕ) (text : List ℕ) → take (length text - k) (drop k text) ≡ drop k text

@@ -1,5 +1,6 @@
 -- The numbers of a tree: nodes in order, and coordinates that lie in their range.
-use Rattle.std.proofs.Common.{◌≡◌, ◌∙◌, ℕ, zero, suc, ◌+◌, ◌*◌, ◌≤◌, Bool, true, false, cond, ◌==◌, List, [], ◌∷◌, ◌++◌, map, find, Option, Some, None, unwrap_or, refl, sym, ap, arith, add-zero}
+use Rattle.std.proofs.Common.{◌≡◌, ◌∙◌, ℕ, zero, suc, ◌+◌, ◌*◌, ◌≤◌, Bool, true, false, cond, ◌==◌, List, [], ◌∷◌, ◌++◌, map, find, Option, Some, None}
+use Rattle.std.proofs.Common.{unwrap_or, refl, sym, ap, arith, add-zero}
 use Rattle.std.specs.Prelude.{ℤ, pos, negsuc, ◌-ℤ◌, ◌≤ℤ◌, nat_abs}
 use Rattle.std.specs.List.{All, range_with_len}
 use Rattle.std.proofs.lemmas.Int.{ints}
@@ -40,14 +41,16 @@ squares_low a b h k =
     omega (arith, p, q)
 
 -- a row that is found lies in range, and so does the origin
-found_near : (t : Bool) (row other : SiteRow) (rest : Option SiteRow) → IsSiteInRange row → IsSiteInRange (unwrap_or rest other) → IsSiteInRange (unwrap_or (cond t (Some row) rest) other)
+found_near : (t : Bool) (row other : SiteRow) (rest : Option SiteRow) → IsSiteInRange row
+    → IsSiteInRange (unwrap_or rest other) → IsSiteInRange (unwrap_or (cond t (Some row) rest) other)
 found_near true row other rest h k = h
 found_near false row other rest h k = k
 
 pub row_near : (rows : List SiteRow) (node : ℕ) → All IsSiteInRange rows → IsSiteInRange (site_of rows node)
 row_near [] node h = record { x_least = omega (arith, ints); x_most = omega (arith, ints); y_least = omega (arith, ints); y_most = omega (arith, ints) }
 row_near (row ∷ rows) node h =
-    found_near (row.node == node) row (record { node = node; x = pos 0; y = pos 0 }) (find (λ row. row.node == node) rows) (All-head IsSiteInRange row rows h) (row_near rows node (All-tail IsSiteInRange row rows h))
+    found_near (row.node == node) row (record { node = node; x = pos 0; y = pos 0 }) (find (λ row. row.node == node) rows)
+    (All-head IsSiteInRange row rows h) (row_near rows node (All-tail IsSiteInRange row rows h))
 
 pub sites_near : (n : ℕ) (rows : List SiteRow) → All IsSiteInRange rows → All IsSiteInRange (sites n rows)
 sites_near n rows h = All-map IsSiteInRange (site_of rows) (file_nodes n) (λ k d low. row_near rows _ h)

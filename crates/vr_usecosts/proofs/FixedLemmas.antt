@@ -22,7 +22,9 @@ fixed-over model lists = total_by-failing (λ v. (vehicle_at model v).fixed) (λ
 
 -- where no vehicle has a fixed cost, no lists have one
 pub none-fixed : (model : Model) → is_some_fixed model ≡ false → (lists : List (List ℕ)) → length lists ≡ length model.vehicles → fixed_part model lists ≡ pos 0
-none-fixed model none lists many = fixed-over model lists ∙ sum_nothing (λ v. fixed_with model v (route lists v)) 0 (length lists) (λ v _ low. by (is_empty (route lists v)) (zero_of (vehicle_at model v).fixed (none_at has_fixed_cost model.vehicles v no_vehicle none (omega (arith, low, many)))))
+none-fixed model none lists many = fixed-over model lists ∙ sum_nothing (λ v. fixed_with model v (route lists v)) 0 (length lists)
+    (λ v _ low. by (is_empty (route lists v))
+    (zero_of (vehicle_at model v).fixed (none_at has_fixed_cost model.vehicles v no_vehicle none (omega (arith, low, many)))))
   where
     off : (b : Bool) → not b ≡ false → IsTrue b
     off true e = refl

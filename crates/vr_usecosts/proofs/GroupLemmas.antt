@@ -1,5 +1,6 @@
 -- What a change adds to the penalties of groups.
-use Rattle.std.proofs.Common.{◌≡◌, ◌∙◌, ℕ, zero, suc, ◌+◌, ◌*◌, ◌<◌, ◌≤◌, Bool, true, false, cond, List, [], ◌∷◌, length, drop, drop-cons, add-one, sum_by, refl, sym, ap, subst, inl, inr, arith}
+use Rattle.std.proofs.Common.{◌≡◌, ◌∙◌, ℕ, zero, suc, ◌+◌, ◌*◌, ◌<◌, ◌≤◌, Bool, true, false, cond, List, [], ◌∷◌, length, drop, drop-cons, add-one, sum_by}
+use Rattle.std.proofs.Common.{refl, sym, ap, subst, inl, inr, arith}
 use Rattle.std.specs.Prelude.{All, IsTrue, nat_lt, reverse, slice_range, slice_index_or, Option, Some, None, ℤ, pos, negsuc, ◌+ℤ◌, ◌-ℤ◌, ◌*ℤ◌}
 use Rattle.std.specs.List.{list_all}
 use Rattle.std.proofs.lemmas.Bool.{cases_lt}
@@ -36,7 +37,8 @@ use Rattle.vr_usecosts.specs.Groups.{pay, has_penalty, is_some_paid, saved_by, s
 -- ---- one group
 
 -- what the penalty of a group gains by the nodes that go, and loses by those that come
-scaled : (n max later now come gone : ℕ) → later + gone ≡ now + come → pos n *ℤ (pos max -ℤ pos later) -ℤ pos n *ℤ (pos max -ℤ pos now) ≡ pos (n * gone) -ℤ pos (n * come)
+scaled : (n max later now come gone : ℕ) → later + gone ≡ now + come
+    → pos n *ℤ (pos max -ℤ pos later) -ℤ pos n *ℤ (pos max -ℤ pos now) ≡ pos (n * gone) -ℤ pos (n * come)
 scaled zero max later now come gone is =
     let a = zero-*ℤ (pos max -ℤ pos later) in
     let b = zero-*ℤ (pos max -ℤ pos now) in
@@ -66,34 +68,44 @@ one-group (Some (negsuc n)) max later now come gone present is = absurd (let low
 abbrev many : List (List ℕ) → List Piece → Group → ℕ
 many lists pieces group = over_pieces (λ y. times y group.nodes) lists pieces
 
-all-groups : (lists later : List (List ℕ)) (turnover : Turnover) → IsBalance lists later turnover → IsOnce lists → IsOnce later → (groups : List Group) → All (λ group. WherePresent (IsIn (pos 0) greatest_cost) group.penalty) groups
-    → total_by (λ group. penalty_for group.penalty group.max (active_in later group)) groups -ℤ total_by (λ group. penalty_for group.penalty group.max (active_in lists group)) groups
-    ≡ pos (sum_by (λ group. pay group.penalty * many lists turnover.gone group) groups) -ℤ pos (sum_by (λ group. pay group.penalty * many lists turnover.come group) groups)
+all-groups : (lists later : List (List ℕ)) (turnover : Turnover) → IsBalance lists later turnover → IsOnce lists
+    → IsOnce later → (groups : List Group) → All (λ group. WherePresent (IsIn (pos 0) greatest_cost) group.penalty) groups
+    → total_by (λ group. penalty_for group.penalty group.max (active_in later group)) groups
+    -ℤ total_by (λ group. penalty_for group.penalty group.max (active_in lists group)) groups
+    ≡ pos (sum_by (λ group. pay group.penalty * many lists turnover.gone group) groups)
+    -ℤ pos (sum_by (λ group. pay group.penalty * many lists turnover.come group) groups)
 all-groups lists later turnover balance once once_later [] present = omega (arith, ints)
 all-groups lists later turnover balance once once_later (q ∷ qs) present =
     let rest = all-groups lists later turnover balance once once_later qs (λ k d low. present (suc k) d (omega (arith, low))) in
     let before = active-count lists once q.nodes in
     let after = active-count later once_later q.nodes in
     let moved = balance.balanced (λ y. times y q.nodes) in
-    let here = one-group q.penalty q.max (active_in later q) (active_in lists q) (many lists turnover.come q) (many lists turnover.gone q) (present 0 q (omega arith)) (omega (arith, before, after, moved)) in
+    let here = one-group q.penalty q.max (active_in later q) (active_in lists q) (many lists turnover.come q)
+    (many lists turnover.gone q) (present 0 q (omega arith)) (omega (arith, before, after, moved)) in
     let gone = sum_by-cons (λ group. pay group.penalty * many lists turnover.gone group) q qs in
     let come = sum_by-cons (λ group. pay group.penalty * many lists turnover.come group) q qs in
     omega (arith, ints, rest, here, gone, come)
 
 -- without a penalty that is not 0 nothing changes
-unpaid : (lists later : List (List ℕ)) (groups : List Group) → All (λ group. WherePresent (IsIn (pos 0) greatest_cost) group.penalty) groups → All (λ group. pay group.penalty ≡ 0) groups
-    → total_by (λ group. penalty_for group.penalty group.max (active_in later group)) groups -ℤ total_by (λ group. penalty_for group.penalty group.max (active_in lists group)) groups ≡ pos 0
+unpaid : (lists later : List (List ℕ)) (groups : List Group)
+    → All (λ group. WherePresent (IsIn (pos 0) greatest_cost) group.penalty) groups → All (λ group. pay group.penalty ≡ 0) groups
+    → total_by (λ group. penalty_for group.penalty group.max (active_in later group)) groups
+    -ℤ total_by (λ group. penalty_for group.penalty group.max (active_in lists group)) groups ≡ pos 0
 unpaid lists later [] present none = omega (arith, ints)
 unpaid lists later (q ∷ qs) present none =
     let rest = unpaid lists later qs (λ k d low. present (suc k) d (omega (arith, low))) (λ k d low. none (suc k) d (omega (arith, low))) in
-    let here = one-group q.penalty q.max (active_in later q) (active_in lists q) (active_in later q) (active_in lists q) (present 0 q (omega arith)) (omega arith) in
+    let here = one-group q.penalty q.max (active_in later q) (active_in lists q)
+    (active_in later q) (active_in lists q) (present 0 q (omega arith)) (omega arith) in
     let zero_is : pay q.penalty ≡ 0 = none 0 q (omega arith) in
     let gone : pay q.penalty * active_in lists q ≡ 0 = ap (λ n. n * active_in lists q) zero_is ∙ omega arith in
     let come : pay q.penalty * active_in later q ≡ 0 = ap (λ n. n * active_in later q) zero_is ∙ omega arith in
     omega (arith, ints, rest, here, gone, come)
 
-pub penalties-stay : (model : Model) → IsWellFormed model → (lists later : List (List ℕ)) → is_some_paid model ≡ false → pos 0 ≡ penalty_part model later -ℤ penalty_part model lists
-penalties-stay model well_formed lists later none = sym (unpaid lists later model.groups (λ k group low. (well_formed.each_group k group low).penalty_in_range) (λ k group low. zero_of (pay (slice_index_or model.groups k group).penalty) (none_at has_penalty model.groups k group none low)))
+pub penalties-stay : (model : Model) → IsWellFormed model → (lists later : List (List ℕ))
+    → is_some_paid model ≡ false → pos 0 ≡ penalty_part model later -ℤ penalty_part model lists
+penalties-stay model well_formed lists later none =
+    sym (unpaid lists later model.groups (λ k group low. (well_formed.each_group k group low).penalty_in_range)
+    (λ k group low. zero_of (pay (slice_index_or model.groups k group).penalty) (none_at has_penalty model.groups k group none low)))
   where
     zero_of : (n : ℕ) → nat_lt 0 n ≡ false → n ≡ 0
     zero_of n e = Prim.grind arith
@@ -110,26 +122,34 @@ sum-times n f (x ∷ xs) =
     omega (arith, a, b, c, i)
 
 pieces-times : (n : ℕ) (f : ℕ → ℕ) (lists : List (List ℕ)) (pieces : List Piece) → over_pieces (λ y. n * f y) lists pieces ≡ n * over_pieces f lists pieces
-pieces-times n f lists pieces = sum-same (λ p. sum_by (λ y. n * f y) (nodes_of lists p)) (λ p. n * sum_by f (nodes_of lists p)) (λ p. sum-times n f (nodes_of lists p)) pieces ∙ sum-times n (λ p. sum_by f (nodes_of lists p)) pieces
+pieces-times n f lists pieces =
+    sum-same (λ p. sum_by (λ y. n * f y) (nodes_of lists p)) (λ p. n * sum_by f (nodes_of lists p)) (λ p. sum-times n f (nodes_of lists p)) pieces
+    ∙ sum-times n (λ p. sum_by f (nodes_of lists p)) pieces
 
-pieces-plus : (f g : ℕ → ℕ) (lists : List (List ℕ)) (pieces : List Piece) → over_pieces (λ y. f y + g y) lists pieces ≡ over_pieces f lists pieces + over_pieces g lists pieces
-pieces-plus f g lists pieces = sum-same (λ p. sum_by (λ y. f y + g y) (nodes_of lists p)) (λ p. sum_by f (nodes_of lists p) + sum_by g (nodes_of lists p)) (λ p. sum-plus f g (nodes_of lists p)) pieces ∙ sum-plus (λ p. sum_by f (nodes_of lists p)) (λ p. sum_by g (nodes_of lists p)) pieces
+pieces-plus : (f g : ℕ → ℕ) (lists : List (List ℕ)) (pieces : List Piece)
+    → over_pieces (λ y. f y + g y) lists pieces ≡ over_pieces f lists pieces + over_pieces g lists pieces
+pieces-plus f g lists pieces = sum-same (λ p. sum_by (λ y. f y + g y) (nodes_of lists p)) (λ p. sum_by f (nodes_of lists p) + sum_by g (nodes_of lists p))
+    (λ p. sum-plus f g (nodes_of lists p)) pieces ∙ sum-plus (λ p. sum_by f (nodes_of lists p)) (λ p. sum_by g (nodes_of lists p)) pieces
 
 pieces-same : (f g : ℕ → ℕ) (lists : List (List ℕ)) (pieces : List Piece) → ((y : ℕ) → f y ≡ g y) → over_pieces f lists pieces ≡ over_pieces g lists pieces
-pieces-same f g lists pieces same = sum-same (λ p. sum_by f (nodes_of lists p)) (λ p. sum_by g (nodes_of lists p)) (λ p. sum-same f g same (nodes_of lists p)) pieces
+pieces-same f g lists pieces same =
+    sum-same (λ p. sum_by f (nodes_of lists p)) (λ p. sum_by g (nodes_of lists p)) (λ p. sum-same f g same (nodes_of lists p)) pieces
 
 -- what a node saves, group by group
 abbrev paid : List Group → ℕ → ℕ
 paid groups y = sum_by (λ group. pay group.penalty * times y group.nodes) groups
 
-groups-turned : (lists : List (List ℕ)) (pieces : List Piece) (groups : List Group) → sum_by (λ group. pay group.penalty * many lists pieces group) groups ≡ over_pieces (paid groups) lists pieces
-groups-turned lists pieces [] = sym (sum-same (λ p. sum_by (λ (y : ℕ). 0) (nodes_of lists p)) (λ p. 0) (λ p. sum-none (nodes_of lists p)) pieces ∙ sum-none pieces)
+groups-turned : (lists : List (List ℕ)) (pieces : List Piece) (groups : List Group)
+    → sum_by (λ group. pay group.penalty * many lists pieces group) groups ≡ over_pieces (paid groups) lists pieces
+groups-turned lists pieces [] =
+    sym (sum-same (λ p. sum_by (λ (y : ℕ). 0) (nodes_of lists p)) (λ p. 0) (λ p. sum-none (nodes_of lists p)) pieces ∙ sum-none pieces)
 groups-turned lists pieces (q ∷ qs) =
     let a = sum_by-cons (λ group. pay group.penalty * many lists pieces group) q qs in
     let i = groups-turned lists pieces qs in
     let t = pieces-times (pay q.penalty) (λ y. times y q.nodes) lists pieces in
     let p = pieces-plus (λ y. pay q.penalty * times y q.nodes) (paid qs) lists pieces in
-    let s = pieces-same (paid (q ∷ qs)) (λ y. pay q.penalty * times y q.nodes + paid qs y) lists pieces (λ y. sum_by-cons (λ group. pay group.penalty * times y group.nodes) q qs) in
+    let s = pieces-same (paid (q ∷ qs)) (λ y. pay q.penalty * times y q.nodes + paid qs y)
+    lists pieces (λ y. sum_by-cons (λ group. pay group.penalty * times y group.nodes) q qs) in
     omega (arith, a, i, t, p, s)
 
 abbrev nodes_in : Group → List ℕ
@@ -148,7 +168,8 @@ paid-none (q ∷ qs) y none =
 -- it is the penalty of the one group that has the node
 paid-once : (groups : List Group) (y : ℕ) → times y (each groups nodes_in) ≤ 1 → paid groups y ≡ saved_by groups y
 paid-once [] y few = refl
-paid-once (q ∷ qs) y few = sum_by-cons (λ group. pay group.penalty * times y group.nodes) q qs ∙ by (holds q.nodes y) refl (paid-once qs y (omega (arith, few, all)))
+paid-once (q ∷ qs) y few = sum_by-cons (λ group. pay group.penalty * times y group.nodes) q qs
+    ∙ by (holds q.nodes y) refl (paid-once qs y (omega (arith, few, all)))
   where
     all : times y (each (q ∷ qs) nodes_in) ≡ times y q.nodes + times y (each qs nodes_in)
     all = ap (times y) (flat_map-cons nodes_in q qs) ∙ times_append y q.nodes (each qs nodes_in)
@@ -169,9 +190,11 @@ paid-once (q ∷ qs) y few = sum_by-cons (λ group. pay group.penalty * times y 
 
 -- ---- what is kept
 
-not-saved : (groups : List Group) (y : ℕ) → ((group : Group) (g : ℕ) → g < length groups → holds (slice_index_or groups g group).nodes y ≡ false) → saved_by groups y ≡ 0
+not-saved : (groups : List Group) (y : ℕ)
+    → ((group : Group) (g : ℕ) → g < length groups → holds (slice_index_or groups g group).nodes y ≡ false) → saved_by groups y ≡ 0
 not-saved [] y none = refl
-not-saved (q ∷ qs) y none = ap (λ b. cond b (pay q.penalty) (saved_by qs y)) (none q 0 (omega arith)) ∙ not-saved qs y (λ d g low. none d (suc g) (omega (arith, low)))
+not-saved (q ∷ qs) y none = ap (λ b. cond b (pay q.penalty) (saved_by qs y)) (none q 0 (omega arith))
+    ∙ not-saved qs y (λ d g low. none d (suc g) (omega (arith, low)))
 
 module _ (model : Model) (well_formed : IsWellFormed model) (saved : List ℤ) (are : AreSaved model saved) where
   pub saved-is : (y : ℕ) → number_at saved y ≡ pos (saved_by model.groups y)
@@ -189,7 +212,8 @@ module _ (model : Model) (well_formed : IsWellFormed model) (saved : List ℤ) (
 
   few-saved : (groups : List Group) (y : ℕ) → All (λ group. WherePresent (IsIn (pos 0) greatest_cost) group.penalty) groups → saved_by groups y ≤ 1099511627776
   few-saved [] y present = omega arith
-  few-saved (q ∷ qs) y present = by (holds q.nodes y) (few-saved qs y (λ k d low. present (suc k) d (omega (arith, low)))) (few q.penalty (present 0 q (omega arith)))
+  few-saved (q ∷ qs) y present =
+      by (holds q.nodes y) (few-saved qs y (λ k d low. present (suc k) d (omega (arith, low)))) (few q.penalty (present 0 q (omega arith)))
     where
       few : (penalty : Option ℤ) → WherePresent (IsIn (pos 0) greatest_cost) penalty → pay penalty ≤ 1099511627776
       few None present = omega arith
@@ -238,7 +262,8 @@ module _ (model : Model) (well_formed : IsWellFormed model) (saved : List ℤ) (
 -- ---- what the code asks in turn
 
 -- the groups from a place on, of which the first is there
-pub saved-next : (groups : List Group) (y g : ℕ) (q : Group) → g < length groups → slice_index_or groups g q ≡ q → saved_by (drop g groups) y ≡ cond (holds q.nodes y) (pay q.penalty) (saved_by (drop (g + 1) groups) y)
+pub saved-next : (groups : List Group) (y g : ℕ) (q : Group) → g < length groups → slice_index_or groups g q ≡ q
+    → saved_by (drop g groups) y ≡ cond (holds q.nodes y) (pay q.penalty) (saved_by (drop (g + 1) groups) y)
 saved-next groups y g q low is =
     ap (λ l. saved_by l y) (drop-cons groups g q low) ∙ (ap (λ r. saved_by (r ∷ drop (suc g) groups) y) is
     ∙ ap (λ n. cond (holds q.nodes y) (pay q.penalty) (saved_by (drop n groups) y)) (sym (add-one g)))
@@ -252,7 +277,8 @@ total-turned f (x ∷ xs) =
     omega (arith, ints, a, b, i)
 
 -- a chain, whichever way it goes
-pub total-chain : (f : ℕ → ℤ) (lists : List (List ℕ)) (v from to : ℕ) (reversed : Bool) → total_by f (nodes_of lists (Chain v from to reversed)) ≡ total_by f (slice_range (route lists v) from to)
+pub total-chain : (f : ℕ → ℤ) (lists : List (List ℕ)) (v from to : ℕ) (reversed : Bool)
+    → total_by f (nodes_of lists (Chain v from to reversed)) ≡ total_by f (slice_range (route lists v) from to)
 total-chain f lists v from to false = refl
 total-chain f lists v from to true = total-turned f (slice_range (route lists v) from to)
 

@@ -50,9 +50,11 @@ sum-one f lists x pieces =
     let two = sum_by-cons f x [] in
     omega (arith, one, two)
 
-module _ (model : Model) (well : IsWellFormed model) (saved : List ℤ) (are : AreSaved model saved) (lists : List (List ℕ)) (valid : IsTrue (is_valid model lists)) where
+module _ (model : Model) (well : IsWellFormed model) (saved : List ℤ) (are : AreSaved model saved)
+    (lists : List (List ℕ)) (valid : IsTrue (is_valid model lists)) where
   -- a list that gets nodes saves what they save
-  put-in : (w : ℕ) (list : List ℕ) (come : List Piece) → w < length lists → All (IsWithin lists) come → ((f : ℕ → ℕ) → sum_by f list ≡ sum_by f (route lists w) + over_pieces f lists come)
+  put-in : (w : ℕ) (list : List ℕ) (come : List Piece) → w < length lists → All (IsWithin lists) come
+      → ((f : ℕ → ℕ) → sum_by f list ≡ sum_by f (route lists w) + over_pieces f lists come)
       → IsTrue (is_valid model (with_route lists w list)) → penalty_part model lists -ℤ penalty_part model (with_route lists w list) ≡ saved_in saved lists come
   put-in w list come low within more after =
       let later : List (List ℕ) = with_route lists w list in
@@ -60,7 +62,8 @@ module _ (model : Model) (well : IsWellFormed model) (saved : List ℤ) (are : A
         within = record { come = within; gone = All-nil (IsWithin lists); apart = λ k piece under. All-nil _ };
         balanced = λ f. (let set = sum_by-set (λ l. sum_by f l) lists w list [] low in let m = more f in omega (arith, set, m));
       } in
-      let change = penalties-change model well saved are lists later (record { come = come; gone = [] }) (once-valid model lists valid) (once-valid model later after) balance in
+      let change = penalties-change model well saved are lists later (record { come = come; gone = [] })
+      (once-valid model lists valid) (once-valid model later after) balance in
       omega (arith, ints, change)
 
   pub visit-saves : (u w t : ℕ) → Saves model lists (MakeActive u w t) (number_at saved u)
@@ -68,17 +71,21 @@ module _ (model : Model) (well : IsWellFormed model) (saved : List ℤ) (are : A
       let facts = of_make_active model lists u w t one in
       let more : (f : ℕ → ℕ) → sum_by f (insert (route lists w) t u) ≡ sum_by f (route lists w) + over_pieces f lists (Node u ∷ []) = λ f.
       (let put = sum_by-insert f (route lists w) t u in let come = sum-one f lists u [] in omega (arith, put, come)) in
-      let is = put-in w (insert (route lists w) t u) (Node u ∷ []) facts.vehicle (All-cons (IsWithin lists) (Node u) [] tt (All-nil (IsWithin lists))) more after in
+      let is = put-in w (insert (route lists w) t u) (Node u ∷ []) facts.vehicle
+      (All-cons (IsWithin lists) (Node u) [] tt (All-nil (IsWithin lists))) more after in
       omega (arith, ints, is)
 
-  pub pair-saves : (p w s t : ℕ) → Saves model lists (PairActive p w s t) (number_at saved (pair_at model p).pickup +ℤ number_at saved (pair_at model p).delivery)
+  pub pair-saves : (p w s t : ℕ)
+      → Saves model lists (PairActive p w s t) (number_at saved (pair_at model p).pickup +ℤ number_at saved (pair_at model p).delivery)
   pair-saves p w s t one after =
       let pair = pair_at model p in
       let facts = of_pair_active model lists p w s t one in
       let come : List Piece = Node pair.pickup ∷ (Node pair.delivery ∷ []) in
       let more : (f : ℕ → ℕ) → sum_by f (with_pair pair s t (route lists w)) ≡ sum_by f (route lists w) + over_pieces f lists come = λ f.
-      (let put = sum-pair f pair s t (route lists w) facts.order in let one = sum-one f lists pair.pickup (Node pair.delivery ∷ []) in let two = sum-one f lists pair.delivery [] in omega (arith, put, one, two)) in
-      let within = All-cons (IsWithin lists) (Node pair.pickup) (Node pair.delivery ∷ []) tt (All-cons (IsWithin lists) (Node pair.delivery) [] tt (All-nil (IsWithin lists))) in
+      (let put = sum-pair f pair s t (route lists w) facts.order in let one = sum-one f lists pair.pickup (Node pair.delivery ∷ []) in
+      let two = sum-one f lists pair.delivery [] in omega (arith, put, one, two)) in
+      let within = All-cons (IsWithin lists) (Node pair.pickup) (Node pair.delivery ∷ []) tt
+      (All-cons (IsWithin lists) (Node pair.delivery) [] tt (All-nil (IsWithin lists))) in
       let is = put-in w (with_pair pair s t (route lists w)) come facts.vehicle within more after in
       omega (arith, ints, is)
 
@@ -89,16 +96,19 @@ module _ (model : Model) (well : IsWellFormed model) (saved : List ℤ) (are : A
       let x : ℕ = slice_index list a in
       let facts = of_swap_active model lists v a u one in
       let later : List (List ℕ) = with_route lists v (slice_set list a u) in
-      let idle = and_right (is_visit model u) (not (is_active lists u)) (and_right (is_place lists v a) (is_inactive model lists u) (and_right (is_vehicle lists v) _ one)) in
+      let idle = and_right (is_visit model u) (not (is_active lists u))
+      (and_right (is_place lists v a) (is_inactive model lists u) (and_right (is_vehicle lists v) _ one)) in
       let turnover : Turnover = record { come = Node u ∷ []; gone = Node x ∷ [] } in
       let other : Node u ≢ Node x = λ e. (
       let same : u ≡ x = ap (λ piece. slice_index_or (nodes_of lists piece) 0 0) e in
-      absurd (clash (is_active lists u) (subst (λ y. is_active lists y ≡ true) (sym same) (active_at lists x v a facts.vehicle facts.place refl)) (fails_not (is_active lists u) idle))) in
+      absurd (clash (is_active lists u) (subst (λ y. is_active lists y ≡ true) (sym same) (active_at lists x v a facts.vehicle facts.place refl))
+      (fails_not (is_active lists u) idle))) in
       let balance : IsBalance lists later turnover = record {
         within = record {
           come = All-cons (IsWithin lists) (Node u) [] tt (All-nil (IsWithin lists));
           gone = All-cons (IsWithin lists) (Node x) [] tt (All-nil (IsWithin lists));
-          apart = All-cons (IsNoneOf (Node x ∷ [])) (Node u) [] (All-cons (λ piece. Node u ≢ piece) (Node x) [] other (All-nil (λ piece. Node u ≢ piece))) (All-nil (IsNoneOf (Node x ∷ [])));
+          apart = All-cons (IsNoneOf (Node x ∷ [])) (Node u) []
+              (All-cons (λ piece. Node u ≢ piece) (Node x) [] other (All-nil (λ piece. Node u ≢ piece))) (All-nil (IsNoneOf (Node x ∷ [])));
         };
         balanced = λ f. (
             let set = sum_by-set (λ l. sum_by f l) lists v (slice_set list a u) [] facts.vehicle in
@@ -111,7 +121,8 @@ module _ (model : Model) (well : IsWellFormed model) (saved : List ℤ) (are : A
       omega (arith, ints, change)
 
   -- and so no more than the most that a node saves, less that
-  pub newcomer-saves-at-most : (v a u : ℕ) (most : ℤ) → IsMost saved most → SavesAtMost model lists (SwapActive v a u) (most -ℤ number_at saved (slice_index (route lists v) a))
+  pub newcomer-saves-at-most : (v a u : ℕ) (most : ℤ) → IsMost saved most
+      → SavesAtMost model lists (SwapActive v a u) (most -ℤ number_at saved (slice_index (route lists v) a))
   newcomer-saves-at-most v a u most is one after =
       let idle = and_right (is_place lists v a) (is_inactive model lists u) (and_right (is_vehicle lists v) _ one) in
       let low = visit_below model u (and_left (is_visit model u) _ idle) in

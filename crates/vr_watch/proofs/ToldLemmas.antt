@@ -11,17 +11,20 @@ module _ {W : Type 0} (after : W → List Event → List ℕ) where
 
   -- first these events, then those
   pub told_both : (a b c : List W) (first then : List Event) → Reported after a b first → Reported after b c then → Reported after a c (first ++ then)
-  told_both a b c first then f t = record { heard = λ later. t.heard later ∙ (f.heard (then ++ later) ∙ ap (reports after a) (sym (append_assoc first then later))) }
+  told_both a b c first then f t =
+      record { heard = λ later. t.heard later ∙ (f.heard (then ++ later) ∙ ap (reports after a) (sym (append_assoc first then later))) }
 
   -- what was told before of those in front and behind
   split : (a b : List W) (n : ℕ) (told later : List Event) → Reported after a b told → reports after (take n b) later ≡ reports after (take n a) (told ++ later)
   split a b n told later t = sym (take-map (λ w. after w later) n b) ∙ (ap (take n) (t.heard later) ∙ take-map (λ w. after w (told ++ later)) n a)
 
-  split_rest : (a b : List W) (n : ℕ) (told later : List Event) → Reported after a b told → reports after (drop n b) later ≡ reports after (drop n a) (told ++ later)
+  split_rest : (a b : List W) (n : ℕ) (told later : List Event) → Reported after a b told
+      → reports after (drop n b) later ≡ reports after (drop n a) (told ++ later)
   split_rest a b n told later t = sym (drop-map (λ w. after w later) n b) ∙ (ap (drop n) (t.heard later) ∙ drop-map (λ w. after w (told ++ later)) n a)
 
   -- first these events were told to all, then one to some
-  pub some_behind : (a b c : List W) (told left : List Event) (event : Event) → Reported after a b told → ReportedToSome after b c event → ReportedInPart after a c (told ++ (event ∷ left))
+  pub some_behind : (a b c : List W) (told left : List Event) (event : Event) → Reported after a b told
+      → ReportedToSome after b c event → ReportedInPart after a c (told ++ (event ∷ left))
   some_behind a b c told left event t s = record {
     told = told;
     hand = event ∷ [];
@@ -49,12 +52,15 @@ module _ {W : Type 0} (after : W → List Event → List ℕ) where
   in_part a b event s = some_behind a a b [] [] event (told_nothing a) s
 
   -- first these events were told to all, then others in part
-  pub in_part_behind : (a b c : List W) (first events left : List Event) → Reported after a b first → ReportedInPart after b c events → ReportedInPart after a c (first ++ (events ++ left))
+  pub in_part_behind : (a b c : List W) (first events left : List Event) → Reported after a b first
+      → ReportedInPart after b c events → ReportedInPart after a c (first ++ (events ++ left))
   in_part_behind a b c first events left f p = record {
     told = first ++ p.told;
     hand = p.hand;
     left = p.left ++ left;
-    whole = ap (λ es. first ++ (es ++ left)) p.whole ∙ (ap (λ es. first ++ es) (append_assoc p.told (p.hand ++ p.left) left ∙ ap (λ es. p.told ++ es) (append_assoc p.hand p.left left)) ∙ sym (append_assoc first p.told (p.hand ++ (p.left ++ left))));
+    whole = ap (λ es. first ++ (es ++ left)) p.whole
+        ∙ (ap (λ es. first ++ es) (append_assoc p.told (p.hand ++ p.left) left ∙ ap (λ es. p.told ++ es) (append_assoc p.hand p.left left))
+        ∙ sym (append_assoc first p.told (p.hand ++ (p.left ++ left))));
     one = p.one;
     front = p.front;
     heard = λ later. p.heard later ∙ ap₂ (λ x y. x ++ y)
@@ -64,10 +70,12 @@ module _ {W : Type 0} (after : W → List Event → List ℕ) where
 
   -- the same of the same watchers
   pub told_at : (a x b y : List W) (events : List Event) → x ≡ a → y ≡ b → Reported after a b events → Reported after x y events
-  told_at a x b y events p q t = record { heard = λ later. ap (λ ws. reports after ws later) q ∙ (t.heard later ∙ ap (λ ws. reports after ws (events ++ later)) (sym p)) }
+  told_at a x b y events p q t =
+      record { heard = λ later. ap (λ ws. reports after ws later) q ∙ (t.heard later ∙ ap (λ ws. reports after ws (events ++ later)) (sym p)) }
 
   pub some_told_at : (a x b y : List W) (event : Event) → x ≡ a → y ≡ b → ReportedToSome after a b event → ReportedToSome after x y event
   some_told_at a x b y event p q t = record {
     front = t.front;
-    heard = λ later. ap (λ ws. reports after ws later) q ∙ (t.heard later ∙ ap (λ ws. reports after (take t.front ws) (event ∷ later) ++ reports after (drop t.front ws) later) (sym p));
+    heard = λ later. ap (λ ws. reports after ws later) q
+        ∙ (t.heard later ∙ ap (λ ws. reports after (take t.front ws) (event ∷ later) ++ reports after (drop t.front ws) later) (sym p));
   }

@@ -6,7 +6,8 @@ use Rattle.vr_json.specs.Reading.{and_then, at_path}
 use Rattle.vr_json.specs.Trees.{count, listed, one}
 use Rattle.vr_tsplib.specs.Files.{complete, demands_line, head_line, read_line, read_lines, sites_line, weights_line}
 use Rattle.vr_tsplib.specs.Flaws.{at_line, refuse_if}
-use Rattle.vr_tsplib.specs.Heads.{begin_demands, begin_depot, begin_sites, begin_weights, heading_line, keep_capacity, keep_dimension, keep_display_data_type, keep_name, keep_node_coord_type, keep_type, keep_weight_format, keep_weight_type, keyword_parts, once_number, section_nodes}
+use Rattle.vr_tsplib.specs.Heads.{begin_demands, begin_depot, begin_sites, begin_weights, heading_line, keep_capacity, keep_dimension, keep_display_data_type}
+use Rattle.vr_tsplib.specs.Heads.{keep_name, keep_node_coord_type, keep_type, keep_weight_format, keep_weight_type, keyword_parts, once_number, section_nodes}
 use Rattle.vr_tsplib.specs.Imported.{imported, model_of_lines}
 use Rattle.vr_tsplib.specs.Numbers.{digits, digits_behind, first_number, number_of, one_word, three_numbers, two_numbers, unsigned}
 use Rattle.vr_tsplib.specs.Roots.{floor_root, nearest}
@@ -47,5 +48,8 @@ tree = object
     (member (codes "vehicles") (one (object (member (codes "end") (count 0) (member (codes "start") (count 0) no_members)))) no_members)))))
 
 three_nodes : imported 1 file ≡ Ok tree
-unfolding imported model_of_lines lines words read_lines read_line complete sites_line demands_line weights_line head_line at_line refuse_if and_then at_path begin_sites begin_weights begin_demands begin_depot heading_line section_nodes once_number keep_name keep_type keep_dimension keep_capacity keep_weight_type keep_weight_format keep_node_coord_type keep_display_data_type keyword_parts digits digits_behind unsigned number_of one_word first_number two_numbers three_numbers floor_root nearest site_row demand_row depot_row depot_end row_behind weight weights_behind loads tree_of
+unfolding imported model_of_lines lines words read_lines read_line complete sites_line demands_line weights_line head_line at_line refuse_if and_then
+    at_path begin_sites begin_weights begin_demands begin_depot heading_line section_nodes once_number keep_name keep_type keep_dimension keep_capacity
+    keep_weight_type keep_weight_format keep_node_coord_type keep_display_data_type keyword_parts digits digits_behind unsigned number_of one_word
+    first_number two_numbers three_numbers floor_root nearest site_row demand_row depot_row depot_end row_behind weight weights_behind loads tree_of
 three_nodes = refl

@@ -1,5 +1,6 @@
 -- Two worked tight schedules, with the costs of their lists.
-use Rattle.std.proofs.Common.{◌≡◌, ◌∙◌, ℕ, zero, suc, ◌<◌, Bool, true, false, cond, ◌&&◌, ◌⊎◌, List, [], ◌∷◌, ◌++◌, length, refl, ap, inl, inr, arith, Some, None}
+use Rattle.std.proofs.Common.{◌≡◌, ◌∙◌, ℕ, zero, suc, ◌<◌, Bool, true, false, cond, ◌&&◌, ◌⊎◌, List, [], ◌∷◌, ◌++◌, length, refl, ap, inl, inr, arith, Some}
+use Rattle.std.proofs.Common.{None}
 use Rattle.std.specs.Prelude.{ℤ, pos, ◌+ℤ◌, ◌-ℤ◌, ◌≤ℤ◌, ◌||◌, IsTrue, int_le, int_lt, unwrap_or}
 use Rattle.std.proofs.lemmas.Int.{ints}
 use Rattle.vr_model.specs.deciding.ScheduleTests.{keeps_rules-sound}
@@ -61,16 +62,20 @@ module _ (other : Plan) (s : IsSchedule windowed_line other) where
   second_leg = let left = s.slacks_left 1 (omega arith) in omega (arith, ints, left, (s.slacks_bounded 1 (omega arith)).0)
 
   node : pos 30 ≤ℤ cumul other 1
-  node = (within_is (pos 30) (pos 40) (cumul other 1) (and_left (within (pos 30) (pos 40) (cumul other 1)) _ (and_right (within (pos 0) (pos 100) (cumul other 1)) _ (and_right (within (pos 0) horizon (cumul other 1)) _ (s.cumuls_allowed 1 (omega arith)))))).0
+  node = (within_is (pos 30) (pos 40) (cumul other 1)
+      (and_left (within (pos 30) (pos 40) (cumul other 1)) _
+      (and_right (within (pos 0) (pos 100) (cumul other 1)) _ (and_right (within (pos 0) horizon (cumul other 1)) _ (s.cumuls_allowed 1 (omega arith)))))).0
 
 -- a plan of three stops, no earlier than these cumuls
-no_earlier : (a b c : ℤ) (cs breaks ends : List ℤ) → length cs ≡ 3 → a ≤ℤ number_at cs 0 → b ≤ℤ number_at cs 1 → c ≤ℤ number_at cs 2 → IsTrue (is_lex_le ends breaks)
+no_earlier : (a b c : ℤ) (cs breaks ends : List ℤ) → length cs ≡ 3 → a ≤ℤ number_at cs 0
+    → b ≤ℤ number_at cs 1 → c ≤ℤ number_at cs 2 → IsTrue (is_lex_le ends breaks)
     → IsTrue (is_lex_le (a ∷ b ∷ c ∷ ends) (cs ++ breaks))
 no_earlier a b c [] breaks ends e x y z h = absurd (omega (arith, e))
 no_earlier a b c (k ∷ []) breaks ends e x y z h = absurd (omega (arith, e))
 no_earlier a b c (k ∷ l ∷ []) breaks ends e x y z h = absurd (omega (arith, e))
 no_earlier a b c (k ∷ l ∷ m ∷ n ∷ cs) breaks ends e x y z h = absurd (omega (arith, e))
-no_earlier a b c (k ∷ l ∷ m ∷ []) breaks ends e x y z h = lex_at a k (b ∷ c ∷ ends) (l ∷ m ∷ breaks) x (λ _. lex_at b l (c ∷ ends) (m ∷ breaks) y (λ _. lex_at c m ends breaks z (λ _. h)))
+no_earlier a b c (k ∷ l ∷ m ∷ []) breaks ends e x y z h =
+    lex_at a k (b ∷ c ∷ ends) (l ∷ m ∷ breaks) x (λ _. lex_at b l (c ∷ ends) (m ∷ breaks) y (λ _. lex_at c m ends breaks z (λ _. h)))
 
 windowed_tight : IsTight windowed_line windowed_plan
 windowed_tight = record {
@@ -88,7 +93,8 @@ windowed_tight = record {
     schedule = windowed_is;
     start_is = refl;
     end_is = refl;
-    least = λ other s start end. no_earlier (pos 20) (pos 30) (pos 40) other.cumuls other.breaks [] s.cumul_of_each_stop (omega (arith, ints, start)) (node other s) (omega (arith, ints, end)) refl;
+    least = λ other s start end. no_earlier (pos 20) (pos 30) (pos 40) other.cumuls other.breaks []
+        s.cumul_of_each_stop (omega (arith, ints, start)) (node other s) (omega (arith, ints, end)) refl;
   };
 }
 
@@ -134,11 +140,18 @@ module _ (other : Plan) (s : IsSchedule rested_line other) where
   carried k t = ap (λ inside. cond inside (pos 5) (pos 0) +ℤ pos 0) t
 
   on_arc : (k : ℕ) → k < 2 → IsTrue (is_inside rested_line other 0 k) → pos 25 ≤ℤ cumul other 2
-  on_arc zero low t = let b = carried 0 t in let slow = s.slacks_carry_breaks 0 (omega arith) in omega (arith, ints, b, slow, first_rested, second_rested, above, (s.slacks_bounded 1 (omega arith)).0)
-  on_arc (suc zero) low t = let b = carried 1 t in let slow = s.slacks_carry_breaks 1 (omega arith) in omega (arith, ints, b, slow, first_rested, second_rested, above, (s.slacks_bounded 0 (omega arith)).0)
+  on_arc zero low t =
+      let b = carried 0 t in
+      let slow = s.slacks_carry_breaks 0 (omega arith) in
+      omega (arith, ints, b, slow, first_rested, second_rested, above, (s.slacks_bounded 1 (omega arith)).0)
+  on_arc (suc zero) low t =
+      let b = carried 1 t in
+      let slow = s.slacks_carry_breaks 1 (omega arith) in
+      omega (arith, ints, b, slow, first_rested, second_rested, above, (s.slacks_bounded 0 (omega arith)).0)
   on_arc (suc (suc k)) low t = absurd (omega (arith, low))
 
-  placed : IsTrue (true && is_before rested_line other 0) ⊎ IsTrue (true && is_after rested_line other 0) ⊎ (k : ℕ) × (k < 2) × IsTrue (is_inside rested_line other 0 k) → pos 25 ≤ℤ cumul other 2
+  placed : IsTrue (true && is_before rested_line other 0) ⊎ IsTrue (true && is_after rested_line other 0)
+      ⊎ (k : ℕ) × (k < 2) × IsTrue (is_inside rested_line other 0 k) → pos 25 ≤ℤ cumul other 2
   placed (inl t) = let a = le_of_test (break_start other 0 +ℤ pos 5) (cumul other 0) t in
       omega (arith, ints, a, begins.0, first_rested, second_rested, (s.slacks_bounded 0 (omega arith)).0, (s.slacks_bounded 1 (omega arith)).0)
   placed (inr (inl t)) = absurd (let a = le_of_test (cumul other 2) (break_start other 0) t in
@@ -159,14 +172,16 @@ rested_tight = record {
   least_end = record { reached = (rested_plan, rested_is, refl); least = λ other s. ends other s };
   latest_start = record {
     reached = (rested_plan, rested_is, refl, refl);
-    greatest = λ other s end. omega (arith, ints, end, first_rested other s, second_rested other s, (s.slacks_bounded 0 (omega arith)).0, (s.slacks_bounded 1 (omega arith)).0);
+    greatest = λ other s end.
+        omega (arith, ints, end, first_rested other s, second_rested other s, (s.slacks_bounded 0 (omega arith)).0, (s.slacks_bounded 1 (omega arith)).0);
   };
   least_between = record {
     schedule = rested_is;
     start_is = refl;
     end_is = refl;
     least = λ other s start end. no_earlier (pos 5) (pos 15) (pos 25) other.cumuls other.breaks (pos 0 ∷ []) s.cumul_of_each_stop (omega (arith, ints, start))
-        (omega (arith, ints, start, first_rested other s, (s.slacks_bounded 0 (omega arith)).0)) (omega (arith, ints, end)) (one_break other s other.breaks s.start_of_each_break (begins other s).0);
+        (omega (arith, ints, start, first_rested other s, (s.slacks_bounded 0 (omega arith)).0)) (omega (arith, ints, end))
+        (one_break other s other.breaks s.start_of_each_break (begins other s).0);
   };
 }
 

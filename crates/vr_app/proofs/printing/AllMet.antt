@@ -31,14 +31,16 @@ use Rattle.vr_check.specs.Check.{numbers_finding, lists_finding, finding_in, fin
 use Rattle.vr_app.specs.Printing.{PrintedMeets}
 use Rattle.vr_app.proofs.printing.Below.{length_below}
 use Rattle.vr_app.proofs.printing.ReadBack.{plan_printed, plans_printed, route_printed, routes_back, solution_back}
-use Rattle.vr_app.proofs.printing.PrintedBack.{routes_printed, between_ends, plan_in_is, no_plans, plans_are, route_at, routes_shaped, lists_back, assignment_back}
+use Rattle.vr_app.proofs.printing.PrintedBack.{routes_printed, between_ends, plan_in_is, no_plans, plans_are, route_at, routes_shaped, lists_back}
+use Rattle.vr_app.proofs.printing.PrintedBack.{assignment_back}
 use Rattle.vr_check.proofs.ValidLists.{nothing, are, nothing_required, nothing_in_groups, nothing_in_pairs, nothing_of_policies, nothing_of_vehicles}
 use Rattle.vr_app.proofs.printing.ListsMet.{right_nowhere, no_wrong_end, nothing_dropped, nothing_twice}
 use Rattle.vr_app.proofs.printing.PlansMet.{no_wrong_cumul, no_wrong_slack, no_wrong_break, same_parts}
 use Rattle.vr_app.proofs.printing.Printable.{scheduled, fits, all_vehicles, printable_assignment, printable_parts, dropped_low, dropped_few}
 
 -- a rule finds nothing, and what is found behind it is the finding
-met : {R S : Type 0} {c : Finding} (f : R → Option S → Finding → Finding) (r : R) {s : Option S} (rest : Finding) → s ≡ None → f r None rest ≡ c → f r s rest ≡ c
+met : {R S : Type 0} {c : Finding} (f : R → Option S → Finding → Finding) (r : R) {s : Option S} (rest : Finding)
+    → s ≡ None → f r None rest ≡ c → f r s rest ≡ c
 met f r rest h k = ap (λ o. f r o rest) h ∙ k
 
 module _ (model : Model) (well : IsWellFormed model) (lists : List (List ℕ)) (valid : IsTrue (is_valid model lists)) where
@@ -53,11 +55,13 @@ module _ (model : Model) (well : IsWellFormed model) (lists : List (List ℕ)) (
 
   no_wrong_ends : ends_broken model routes ≡ None
   no_wrong_ends = nothing (ends_broken_in model routes) (length routes) (λ v low. (let there : v < length lists = omega (arith, low, count) in
-      ap (λ r. ends_broken_of model v r.nodes) (route_at model assignment v there) ∙ no_wrong_end model v (route lists v) (route-visits model lists v (are model lists valid))))
+      ap (λ r. ends_broken_of model v r.nodes) (route_at model assignment v there)
+      ∙ no_wrong_end model v (route lists v) (route-visits model lists v (are model lists valid))))
 
   -- a rule on plans that finds nothing in the plan of any used vehicle
   module _ {B : Type 0} (broken : Line → ℕ → ℕ → Plan → Option B)
-      (none : (d v : ℕ) → d < length model.dimensions → v < length lists → is_empty (route lists v) ≡ false → broken (line model d v (route lists v)) d v (plan_at assignment d v) ≡ None) where
+      (none : (d v : ℕ) → d < length model.dimensions → v < length lists → is_empty (route lists v) ≡ false
+      → broken (line model d v (route lists v)) d v (plan_at assignment d v) ≡ None) where
     abbrev broken_in : ℕ → PrintedRoute → ℕ → Option B
     broken_in v r d = broken (line model d v (visits_of r)) d v (plan_of (plan_in r d))
 
@@ -65,17 +69,21 @@ module _ (model : Model) (well : IsWellFormed model) (lists : List (List ℕ)) (
     broken_of v r = first_finding (broken_in v r) (below (length r.plans))
 
     no_wrong_route : (v : ℕ) → v < length lists → broken_of v (route_printed model assignment v) ≡ None
-    no_wrong_route v low = nothing (broken_in v (route_printed model assignment v)) (length (plans_printed model assignment v)) (λ d known. by d known (is_empty (route lists v)) refl)
+    no_wrong_route v low = nothing (broken_in v (route_printed model assignment v))
+        (length (plans_printed model assignment v)) (λ d known. by d known (is_empty (route lists v)) refl)
       where
-        by : (d : ℕ) → d < length (plans_printed model assignment v) → (b : Bool) → is_empty (route lists v) ≡ b → broken_in v (route_printed model assignment v) d ≡ None
+        by : (d : ℕ) → d < length (plans_printed model assignment v) → (b : Bool)
+            → is_empty (route lists v) ≡ b → broken_in v (route_printed model assignment v) d ≡ None
         by d known true e = absurd (let nowhere_known = ap length (no_plans model assignment v e) in omega (arith, known, nowhere_known))
         by d known false e =
             let all = ap length (plans_are model assignment v e) in
             let here : d < length model.dimensions = omega (arith, known, all, length_below (plan_printed model assignment v) (length model.dimensions)) in
-            ap₂ (λ list plan. broken (line model d v list) d v plan) (between_ends model v (route lists v)) (ap plan_of (plan_in_is model assignment v d here e)) ∙ none d v here low e
+            ap₂ (λ list plan. broken (line model d v list) d v plan) (between_ends model v (route lists v))
+            (ap plan_of (plan_in_is model assignment v d here e)) ∙ none d v here low e
 
     no_wrong_routes : first_finding (λ v. broken_of v (slice_index_or routes v no_route)) (below (length routes)) ≡ None
-    no_wrong_routes = nothing (λ v. broken_of v (slice_index_or routes v no_route)) (length routes) (λ v low. (let there : v < length lists = omega (arith, low, count) in
+    no_wrong_routes =
+        nothing (λ v. broken_of v (slice_index_or routes v no_route)) (length routes) (λ v low. (let there : v < length lists = omega (arith, low, count) in
         ap (broken_of v) (route_at model assignment v there) ∙ no_wrong_route v there))
 
   module _ (first_cost : ℤ) (report : Report) where
@@ -94,16 +102,21 @@ module _ (model : Model) (well : IsWellFormed model) (lists : List (List ℕ)) (
         → printed_in model (solution_tree model lists first_cost report) ≡ Some printed
     unfolding printed_in assignment_tree
     is_read low high tries solutions =
-        ap (where_shaped model) (solution_back model.nodes (parts_at model assignment) (inactive model lists) (routes_tree model assignment) routes first_cost report []
-        well.number_of_nodes.1 (printable_parts model well lists valid) (dropped_low model well lists valid) (let few = dropped_few model well lists valid in omega (arith, few))
+        ap (where_shaped model)
+        (solution_back model.nodes (parts_at model assignment) (inactive model lists) (routes_tree model assignment) routes first_cost report []
+        well.number_of_nodes.1 (printable_parts model well lists valid) (dropped_low model well lists valid)
+        (let few = dropped_few model well lists valid in omega (arith, few))
         (record { at_least = low; at_most = high }) (routes_back model assignment (printable_assignment model well lists valid)) solutions tries)
         ∙ ap (λ b. cond b (Some printed) None) (routes_shaped model assignment (fits model well lists valid) (all_vehicles model well lists valid))
 
-    numbers_met : cost model lists ≤ℤ first_cost → report.tries ≤ model.search.tries → 1 ≤ report.solutions → report.solutions ≤ model.search.solutions → numbers_finding model printed ≡ Meets (cost model lists)
+    numbers_met : cost model lists ≤ℤ first_cost → report.tries ≤ model.search.tries → 1 ≤ report.solutions
+        → report.solutions ≤ model.search.solutions → numbers_finding model printed ≡ Meets (cost model lists)
     unfolding cost
     numbers_met no_dearer tries some solutions =
         let c : ℤ = cost model lists in
-        met unless_broken rule.Parts _ (ap (λ a. parts_differ (parts_at model assignment) (parts_at model a)) (assignment_back model assignment (chosen_plans_are_there model lists)) ∙ same_parts (parts_at model assignment))
+        met unless_broken rule.Parts _
+        (ap (λ a. parts_differ (parts_at model assignment) (parts_at model a)) (assignment_back model assignment (chosen_plans_are_there model lists))
+        ∙ same_parts (parts_at model assignment))
         (met unless_broken rule.Cost _ (right_nowhere (is_same_number c c) (tests_of_eq c c refl))
         (met unless_broken rule.FirstCost _ (right_nowhere (int_le c first_cost) (test_of_le c first_cost no_dearer))
         (met unless_broken rule.Limits _ (right_nowhere (is_within_limits model printed)
@@ -121,9 +134,18 @@ module _ (model : Model) (well : IsWellFormed model) (lists : List (List ℕ)) (
         (met unless_broken rule.Pair _ (nothing_in_pairs model lists valid)
         (met unless_broken rule.Policy _ (nothing_of_policies model lists valid)
         (met unless_broken rule.Allowed _ (nothing_of_vehicles model lists valid)
-        (met unless_broken rule.Cumul _ (no_wrong_routes (λ line d v plan. cumul_broken line v plan) (λ d v low known some. no_wrong_cumul (line model d v (route lists v)) d v (plan_at assignment d v) (scheduled model well lists valid d v low known some)))
-        (met unless_broken rule.Slack _ (no_wrong_routes (λ line d v plan. slack_broken line v plan) (λ d v low known some. no_wrong_slack (line model d v (route lists v)) d v (plan_at assignment d v) (scheduled model well lists valid d v low known some)))
-        (met unless_broken rule.Break _ (no_wrong_routes (λ line d v plan. break_broken line d v plan) (λ d v low known some. no_wrong_break (line model d v (route lists v)) d v (plan_at assignment d v) (scheduled model well lists valid d v low known some))) numbers))))))))))
+        (met unless_broken rule.Cumul _
+        (no_wrong_routes (λ line d v plan. cumul_broken line v plan)
+        (λ d v low known some. no_wrong_cumul (line model d v (route lists v)) d v
+        (plan_at assignment d v) (scheduled model well lists valid d v low known some)))
+        (met unless_broken rule.Slack _
+        (no_wrong_routes (λ line d v plan. slack_broken line v plan)
+        (λ d v low known some. no_wrong_slack (line model d v (route lists v)) d v
+        (plan_at assignment d v) (scheduled model well lists valid d v low known some)))
+        (met unless_broken rule.Break _
+        (no_wrong_routes (λ line d v plan. break_broken line d v plan)
+        (λ d v low known some. no_wrong_break (line model d v (route lists v)) d v
+        (plan_at assignment d v) (scheduled model well lists valid d v low known some))) numbers))))))))))
 
 pub printed_meets : PrintedMeets
 unfolding finding

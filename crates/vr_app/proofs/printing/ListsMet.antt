@@ -1,5 +1,6 @@
 -- No rule on printed nodes finds anything in valid lists.
-use Rattle.std.proofs.Common.{◌≡◌, ◌∙◌, ℕ, zero, suc, ◌+◌, ◌<◌, ◌++◌, Bool, true, false, not, ◌||◌, List, [], ◌∷◌, length, take, get_or, None, refl, sym, ap, ap₂, inl, inr, arith, length-append}
+use Rattle.std.proofs.Common.{◌≡◌, ◌∙◌, ℕ, zero, suc, ◌+◌, ◌<◌, ◌++◌, Bool, true, false, not, ◌||◌, List, [], ◌∷◌, length, take, get_or, None, refl, sym, ap}
+use Rattle.std.proofs.Common.{ap₂, inl, inr, arith, length-append}
 use Rattle.std.specs.Prelude.{◌==◌, IsTrue, slice_index, if◌then◌else◌}
 use Rattle.std.specs.List.{list_all, concat}
 use Rattle.std.proofs.Math.Seq.{get_or-append_seam}
@@ -29,11 +30,13 @@ right_nowhere b e = ap (λ b. where_wrong (not b) nowhere) e
 not_first : (j : ℕ) → (suc j == 0) ≡ false
 not_first j = apart (suc j) 0 (λ e. omega (arith, e))
 
-right_nodes : (model : Model) (v : ℕ) (list : List ℕ) → IsTrue (list_all (is_visit model) list) → (k : ℕ) → k < length (route_nodes model v list) → IsTrue (is_right_node model v (route_nodes model v list) k)
+right_nodes : (model : Model) (v : ℕ) (list : List ℕ) → IsTrue (list_all (is_visit model) list) → (k : ℕ)
+    → k < length (route_nodes model v list) → IsTrue (is_right_node model v (route_nodes model v list) k)
 right_nodes model v [] visits k low = absurd (omega (arith, low))
 right_nodes model v (x ∷ xs) visits zero low = test_of_eq (vehicle_at model v).start (vehicle_at model v).start refl
 right_nodes model v (x ∷ xs) visits (suc j) low =
-    ap (λ b. if b then (node_at nodes (suc j) == (vehicle_at model v).start) else behind (suc j + 1 == length nodes)) (not_first j) ∙ by (suc j + 1 == length nodes) refl
+    ap (λ b. if b then (node_at nodes (suc j) == (vehicle_at model v).start) else behind (suc j + 1 == length nodes)) (not_first j)
+    ∙ by (suc j + 1 == length nodes) refl
   where
     list : List ℕ
     list = x ∷ xs
@@ -78,12 +81,14 @@ none_before_in_list (x ∷ xs) (suc k) d low =
     ap₂ (λ a b. a || b) (held_none xs x k (fails_not (holds xs x) (and_left (not (holds xs x)) (is_distinct xs) d)) (omega (arith, low)))
     (none_before_in_list xs k (and_right (not (holds xs x)) (is_distinct xs) d) (omega (arith, low)))
 
-none_before : (lists : List (List ℕ)) (v k : ℕ) → is_distinct (concat lists) ≡ true → v < length lists → k < length (route lists v) → is_active (take v lists) (get_or (route lists v) k 0) ≡ false
+none_before : (lists : List (List ℕ)) (v k : ℕ) → is_distinct (concat lists) ≡ true → v < length lists
+    → k < length (route lists v) → is_active (take v lists) (get_or (route lists v) k 0) ≡ false
 none_before [] v k d low here = absurd (omega (arith, low))
 none_before (list ∷ lists) zero k d low here = refl
 none_before (list ∷ lists) (suc v) k d low here =
     let x : ℕ = get_or (route lists v) k 0 in
-    let held : holds (concat lists) x ≡ true = sym (is_active-concat lists x) ∙ list_any_at (λ l. holds l x) lists v [] (omega (arith, low)) (held_at (route lists v) x k here (held_default (route lists v) k here)) in
+    let held : holds (concat lists) x ≡ true = sym (is_active-concat lists x)
+    ∙ list_any_at (λ l. holds l x) lists v [] (omega (arith, low)) (held_at (route lists v) x k here (held_default (route lists v) k here)) in
     ap₂ (λ a b. a || b) (fails (holds list x) (λ t. clash (holds (concat lists) x) held (is_distinct-apart list (concat lists) d x t)))
     (none_before lists v k (is_distinct-right list (concat lists) d) (omega (arith, low)) here)
   where
@@ -102,4 +107,6 @@ module _ (model : Model) (lists : List (List ℕ)) (valid : IsTrue (is_valid mod
   nothing_dropped = right_nowhere _ (is_same-self (inactive model lists))
 
   pub nothing_twice : once_broken lists ≡ None
-  nothing_twice = none_twice lists (and_right (list_all (is_visit model) (concat lists)) _ (and_right (length lists == length model.vehicles) _ (are model lists valid))) (λ v. route-distinct model lists v (are model lists valid))
+  nothing_twice =
+      none_twice lists (and_right (list_all (is_visit model) (concat lists)) _ (and_right (length lists == length model.vehicles) _ (are model lists valid)))
+      (λ v. route-distinct model lists v (are model lists valid))

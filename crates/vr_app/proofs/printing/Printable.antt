@@ -1,5 +1,6 @@
 -- What is printed of valid lists is printable.
-use Rattle.std.proofs.Common.{◌≡◌, ◌∙◌, ℕ, suc, ◌*◌, ◌-◌, ◌^◌, ◌<◌, ◌≤◌, ◌++◌, Bool, true, false, cond, not, List, [], ◌∷◌, length, filter, Option, Some, None, refl, arith}
+use Rattle.std.proofs.Common.{◌≡◌, ◌∙◌, ℕ, suc, ◌*◌, ◌-◌, ◌^◌, ◌<◌, ◌≤◌, ◌++◌, Bool, true, false, cond, not, List, [], ◌∷◌, length, filter, Option, Some, None}
+use Rattle.std.proofs.Common.{refl, arith}
 use Rattle.std.specs.Prelude.{ℤ, pos, ◌≤ℤ◌, ◌==◌, IsTrue, find, option_map, unwrap_or}
 use Rattle.std.specs.List.{All}
 use Rattle.std.proofs.lemmas.Int.{ints}
@@ -77,7 +78,8 @@ few_breaks dimension v each = record {
 -- ---- valid lists
 
 module _ (model : Model) (well : IsWellFormed model) (lists : List (List ℕ)) (valid : IsTrue (is_valid model lists)) where
-  pub scheduled : (d v : ℕ) → d < length model.dimensions → v < length lists → is_empty (route lists v) ≡ false → IsSchedule (line model d v (route lists v)) (plan_at (assigned model lists) d v)
+  pub scheduled : (d v : ℕ) → d < length model.dimensions → v < length lists → is_empty (route lists v) ≡ false
+      → IsSchedule (line model d v (route lists v)) (plan_at (assigned model lists) d v)
   scheduled d v low known some = open_meets_its_lines model lists (opened model lists valid) d v low known some
 
   dimension_is : (d : ℕ) → d < length model.dimensions → IsDimension model (dimension_at model d)
@@ -96,7 +98,8 @@ module _ (model : Model) (well : IsWellFormed model) (lists : List (List ℕ)) (
   visits_few : (v : ℕ) → length (route lists v) ≤ 1000
   visits_few v = let few = route-few model lists v (are model lists valid) in let nodes = well.number_of_nodes.1 in omega (arith, few, nodes)
 
-  printable_plan : (d v : ℕ) → d < length model.dimensions → v < length lists → is_empty (route lists v) ≡ false → IsPrintablePlan (plan_at (assigned model lists) d v)
+  printable_plan : (d v : ℕ) → d < length model.dimensions → v < length lists
+      → is_empty (route lists v) ≡ false → IsPrintablePlan (plan_at (assigned model lists) d v)
   printable_plan d v low known some =
       let s = scheduled d v low known some in
       let f = fits d v low known some in
@@ -107,7 +110,8 @@ module _ (model : Model) (well : IsWellFormed model) (lists : List (List ℕ)) (
       record {
         cumuls = All-from_get_or IsPrintable plan.cumuls (pos 0) (λ k here.
             (let all = s.cumul_of_each_stop in
-            let inside = within_is (pos 0) horizon (cumul plan k) (and_left (within (pos 0) horizon (cumul plan k)) _ (s.cumuls_allowed k (omega (arith, here, all)))) in
+            let inside = within_is (pos 0) horizon (cumul plan k)
+            (and_left (within (pos 0) horizon (cumul plan k)) _ (s.cumuls_allowed k (omega (arith, here, all)))) in
             printable (cumul plan k) inside.0 inside.1));
         slacks = All-from_get_or IsPrintable plan.slacks (pos 0) (λ k here.
             (let all = s.slack_of_each_arc in
@@ -119,7 +123,8 @@ module _ (model : Model) (well : IsWellFormed model) (lists : List (List ℕ)) (
             let there : i < length (breaks_of dimension v) = omega (arith, here, all) in
             let range = s.breaks_in_range i there in
             let row = breaks.each i no_break there in
-            printable (break_start plan i) (below_start _ (break_start plan i) row.from_in_range range.0) (above (break_start plan i) _ range.1 row.to_in_range)));
+            printable (break_start plan i) (below_start _ (break_start plan i) row.from_in_range range.0)
+            (above (break_start plan i) _ range.1 row.to_in_range)));
         few_cumuls = (let n = f.cumuls in omega (arith, n, short));
         few_slacks = (let n = f.slacks in omega (arith, n, short));
         few_breaks = (let n = f.starts in let few = breaks.few in omega (arith, n, few));
@@ -131,13 +136,15 @@ module _ (model : Model) (well : IsWellFormed model) (lists : List (List ℕ)) (
       below_start : (x y : ℤ) → pos 0 ≤ℤ x → x ≤ℤ y → pos 0 ≤ℤ y
       below_start x y h k = omega (arith, ints, h, k)
 
-  nodes_low : (v : ℕ) → v < length model.vehicles → (list : List ℕ) → All (λ node. node < model.nodes) list → All (λ node. node < model.nodes) (route_nodes model v list)
+  nodes_low : (v : ℕ) → v < length model.vehicles → (list : List ℕ)
+      → All (λ node. node < model.nodes) list → All (λ node. node < model.nodes) (route_nodes model v list)
   nodes_low v low [] h = All-nil _
   nodes_low v low (x ∷ xs) h =
       let P : ℕ → Type 0 = λ node. node < model.nodes in
       let vehicle = well.each_vehicle v no_vehicle low in
       let final : List ℕ = (vehicle_at model v).end ∷ [] in
-      All-cons P (vehicle_at model v).start ((x ∷ xs) ++ final) vehicle.start_in_range (All-append P (x ∷ xs) final h (All-cons P (vehicle_at model v).end [] vehicle.end_in_range (All-nil P)))
+      All-cons P (vehicle_at model v).start ((x ∷ xs) ++ final) vehicle.start_in_range
+      (All-append P (x ∷ xs) final h (All-cons P (vehicle_at model v).end [] vehicle.end_in_range (All-nil P)))
 
   nodes_short : (v : ℕ) (list : List ℕ) → length list ≤ 1000 → length (route_nodes model v list) ≤ 1002
   nodes_short v [] h = omega arith

@@ -1,5 +1,6 @@
 -- The solution that is read of the tree of an assignment: its shape, its lists and its plans.
-use Rattle.std.proofs.Common.{◌≡◌, ◌∙◌, ℕ, suc, ◌+◌, ◌-◌, ◌<◌, ◌≤◌, ◌++◌, Bool, true, false, cond, List, [], ◌∷◌, map, length, take, refl, sym, ap, ap₂, subst, arith, length-append}
+use Rattle.std.proofs.Common.{◌≡◌, ◌∙◌, ℕ, suc, ◌+◌, ◌-◌, ◌<◌, ◌≤◌, ◌++◌, Bool, true, false, cond, List, [], ◌∷◌, map, length, take, refl, sym, ap, ap₂, subst}
+use Rattle.std.proofs.Common.{arith, length-append}
 use Rattle.std.specs.Prelude.{pos, ◌==◌, nat_le, IsTrue, slice_index_or, if◌then◌else◌}
 use Rattle.std.specs.List.{list_all}
 use Rattle.std.specs.Str.{bytes_eq}
@@ -82,7 +83,8 @@ module _ (model : Model) (assignment : Assignment) where
   lists = assignment.lists
 
   -- the plan of a used vehicle in a dimension
-  pub plan_in_is : (v d : ℕ) → d < length model.dimensions → is_empty (route lists v) ≡ false → plan_in (route_printed model assignment v) d ≡ plan_printed model assignment v d
+  pub plan_in_is : (v d : ℕ) → d < length model.dimensions → is_empty (route lists v) ≡ false
+      → plan_in (route_printed model assignment v) d ≡ plan_printed model assignment v d
   plan_in_is v d low some =
       ap (λ b. slice_index_or (if b then [] else map (plan_printed model assignment v) (below (length model.dimensions))) d no_printed_plan) some
       ∙ entry_below (plan_printed model assignment v) (length model.dimensions) d no_printed_plan low
@@ -90,7 +92,8 @@ module _ (model : Model) (assignment : Assignment) where
   pub no_plans : (v : ℕ) → is_empty (route lists v) ≡ true → plans_printed model assignment v ≡ []
   no_plans v none = ap (λ b. if b then [] else map (plan_printed model assignment v) (below (length model.dimensions))) none
 
-  pub plans_are : (v : ℕ) → is_empty (route lists v) ≡ false → plans_printed model assignment v ≡ map (plan_printed model assignment v) (below (length model.dimensions))
+  pub plans_are : (v : ℕ) → is_empty (route lists v) ≡ false
+      → plans_printed model assignment v ≡ map (plan_printed model assignment v) (below (length model.dimensions))
   plans_are v some = ap (λ b. if b then [] else map (plan_printed model assignment v) (below (length model.dimensions))) some
 
   -- the route of vehicle v
@@ -99,12 +102,14 @@ module _ (model : Model) (assignment : Assignment) where
 
   module _ (fits : (d v : ℕ) → d < length model.dimensions → v < length lists → is_empty (route lists v) ≡ false
       → FitsList (length (route lists v)) (length (breaks_of (dimension_at model d) v)) (plan_at assignment d v)) where
-    plans_shaped : (v : ℕ) → v < length lists → is_empty (route lists v) ≡ false → IsTrue (list_all (is_shaped_in model v (route_printed model assignment v)) (below (length model.dimensions)))
+    plans_shaped : (v : ℕ) → v < length lists → is_empty (route lists v) ≡ false
+        → IsTrue (list_all (is_shaped_in model v (route_printed model assignment v)) (below (length model.dimensions)))
     plans_shaped v low some = range_list_all (is_shaped_in model v (route_printed model assignment v)) 0 (length model.dimensions) (λ d from known.
         (let there : d < length model.dimensions = omega (arith, known) in
         let P : ℕ → PrintedPlan → Type 0 = λ stops plan. IsTrue (is_plan_shaped (dimension_at model d) v stops plan) in
         subst (P (length (route_nodes model v (route lists v)))) (sym (plan_in_is v d there some))
-        (subst (λ n. P n (plan_printed model assignment v d)) (sym (nodes_long model v (route lists v) some)) (plan_shaped (dimension_at model d) v (length (route lists v)) (plan_at assignment d v) (fits d v there low some)))))
+        (subst (λ n. P n (plan_printed model assignment v d)) (sym (nodes_long model v (route lists v) some))
+        (plan_shaped (dimension_at model d) v (length (route lists v)) (plan_at assignment d v) (fits d v there low some)))))
 
     route_shaped : (v : ℕ) → v < length lists → IsTrue (is_route_shaped model v (route_printed model assignment v))
     route_shaped v low = and_both (is_same_number (pos v) (pos v)) _ (tests_of_eq (pos v) (pos v) refl) (by (is_empty (route lists v)) refl)
@@ -154,14 +159,17 @@ module _ (model : Model) (assignment : Assignment) where
             let plans : List PrintedPlan = map (plan_printed model assignment v) (below (length model.dimensions)) in
             let count : length plans ≡ length model.dimensions = length_below (plan_printed model assignment v) (length model.dimensions) in
             ap (map plan_of) (plans_are v e)
-            ∙ ext_get_or no_plan (map plan_of plans) made (length-map plans plan_of ∙ count ∙ sym all) (λ d known. (let here : d < length model.dimensions = omega (arith, known, length-map plans plan_of, count) in
-            get_or-map plan_of plans d no_printed_plan no_plan (omega (arith, here, count)) ∙ ap plan_of (entry_below (plan_printed model assignment v) (length model.dimensions) d no_printed_plan here)))
+            ∙ ext_get_or no_plan (map plan_of plans) made (length-map plans plan_of ∙ count ∙ sym all)
+            (λ d known. (let here : d < length model.dimensions = omega (arith, known, length-map plans plan_of, count) in
+            get_or-map plan_of plans d no_printed_plan no_plan (omega (arith, here, count))
+            ∙ ap plan_of (entry_below (plan_printed model assignment v) (length model.dimensions) d no_printed_plan here)))
 
     pub assignment_back : assignment_of (routes_printed model assignment) ≡ assignment
     assignment_back =
         let routes : List PrintedRoute = routes_printed model assignment in
         let count : length routes ≡ length lists = length_below (route_printed model assignment) (length lists) in
-        let plans_back : map plans_of routes ≡ assignment.plans = ext_get_or [] (map plans_of routes) assignment.plans (length-map routes plans_of ∙ count ∙ sym has.of_each_vehicle)
+        let plans_back : map plans_of routes ≡ assignment.plans = ext_get_or [] (map plans_of routes)
+        assignment.plans (length-map routes plans_of ∙ count ∙ sym has.of_each_vehicle)
         (λ v low. (let there : v < length lists = omega (arith, low, length-map routes plans_of, count) in
         get_or-map plans_of routes v no_route [] (omega (arith, there, count)) ∙ ap plans_of (route_at v there) ∙ plans_of_route v there)) in
         ap₂ (λ lists plans. record { lists = lists; plans = plans }) lists_back plans_back

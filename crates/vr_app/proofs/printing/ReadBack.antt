@@ -38,7 +38,8 @@ abbrev pub IsPrintable : ℤ → Type 0
 IsPrintable = IsIn (pos 0) (pos (2 ^ 63 - 1))
 
 number_back : (z : ℤ) (path : List ℕ) → IsPrintable z → any_whole path (printed.whole z) ≡ Ok z
-number_back (pos n) path h = whole_reads n (omega (arith, ints, h.at_most)) (negsuc 9223372036854775807) (pos 9223372036854775807) path (omega (arith, ints)) (omega (arith, ints, h.at_most))
+number_back (pos n) path h = whole_reads n (omega (arith, ints, h.at_most)) (negsuc 9223372036854775807)
+    (pos 9223372036854775807) path (omega (arith, ints)) (omega (arith, ints, h.at_most))
 number_back (negsuc n) path h = absurd (omega (arith, ints, h.at_least))
 
 numbers_back : (zs : List ℤ) (path : List ℕ) → length zs ≤ any_length → All IsPrintable zs → all any_whole path (printed.wholes zs) ≡ Ok zs
@@ -46,15 +47,18 @@ numbers_back zs path few h =
     array_each (λ earlier. any_whole) printed.whole (λ z. z) 0 any_length path zs (omega arith) few
     (All-weaker IsPrintable (ReadsAs (λ earlier. any_whole) printed.whole (λ z. z)) (λ z is earlier path. number_back z path is) zs h) ∙ ap Ok (map-id zs)
 
-nodes_back : (n : ℕ) (nodes : List ℕ) (path : List ℕ) → n ≤ 1000 → length nodes ≤ any_length → All (λ node. node < n) nodes → all (below_n n) path (printed.counts nodes) ≡ Ok nodes
+nodes_back : (n : ℕ) (nodes : List ℕ) (path : List ℕ) → n ≤ 1000 → length nodes ≤ any_length
+    → All (λ node. node < n) nodes → all (below_n n) path (printed.counts nodes) ≡ Ok nodes
 nodes_back n nodes path small few h =
     array_each (λ earlier. below_n n) trees.count (λ k. k) 0 any_length path nodes (omega arith) few
-    (All-weaker (λ node. node < n) (ReadsAs (λ earlier. below_n n) trees.count (λ k. k)) (λ k low earlier path. below_reads k (omega (arith, low, small)) n path low) nodes h) ∙ ap Ok (map-id nodes)
+    (All-weaker (λ node. node < n) (ReadsAs (λ earlier. below_n n) trees.count (λ k. k))
+    (λ k low earlier path. below_reads k (omega (arith, low, small)) n path low) nodes h) ∙ ap Ok (map-id nodes)
 
 text_back : (s : List ℕ) (path : List ℕ) → length s ≤ any_length → text 0 any_length path (string s) ≡ Ok s
 unfolding text at_path and_then
 text_back s path few =
-    ap (λ b. at_path path (if b then Ok s else Err WrongLength)) (and_from (nat_le 0 (length s)) (nat_le (length s) any_length) (le-leb 0 (length s) (omega arith)) (le-leb (length s) any_length few))
+    ap (λ b. at_path path (if b then Ok s else Err WrongLength))
+    (and_from (nat_le 0 (length s)) (nat_le (length s) any_length) (le-leb 0 (length s) (omega arith)) (le-leb (length s) any_length few))
 
 stop_back : (end : End) (path : List ℕ) → choice stop_words path (string (word_of end)) ≡ Ok tt
 unfolding choice at_path and_then
@@ -108,7 +112,8 @@ pub record IsPrintableAssignment (model : Model) (assignment : Assignment) : Typ
   pub few_vehicles : length assignment.lists ≤ 100
   pub few_dimensions : length model.dimensions ≤ 4
   pub names : (d : ℕ) → d < length model.dimensions → length (dimension_at model d).name ≤ 64
-  pub plans : (d v : ℕ) → d < length model.dimensions → v < length assignment.lists → is_empty (route assignment.lists v) ≡ false → IsPrintablePlan (plan_at assignment d v)
+  pub plans : (d v : ℕ) → d < length model.dimensions → v < length assignment.lists
+      → is_empty (route assignment.lists v) ≡ false → IsPrintablePlan (plan_at assignment d v)
   pub nodes : (v : ℕ) → v < length assignment.lists → All (λ node. node < model.nodes) (route_nodes model v (route assignment.lists v))
   pub short : (v : ℕ) → v < length assignment.lists → length (route_nodes model v (route assignment.lists v)) ≤ any_length
 
@@ -117,26 +122,33 @@ module _ (model : Model) (assignment : Assignment) (h : IsPrintableAssignment mo
   plans_back v path low = by (is_empty (route assignment.lists v)) refl
     where
       by : (b : Bool) → is_empty (route assignment.lists v) ≡ b
-          → all plan path (if b then array no_items else used_plans_tree model assignment v) ≡ Ok (if b then [] else map (plan_printed model assignment v) (below (length model.dimensions)))
+          → all plan path (if b then array no_items else used_plans_tree model assignment v)
+          ≡ Ok (if b then [] else map (plan_printed model assignment v) (below (length model.dimensions)))
       by true e = none_back path
       by false e =
-          array_each (λ earlier. plan) (dimension_tree model assignment v) (plan_printed model assignment v) 0 any_length path (below (length model.dimensions)) (omega arith)
+          array_each (λ earlier. plan) (dimension_tree model assignment v) (plan_printed model assignment v)
+          0 any_length path (below (length model.dimensions)) (omega arith)
           (omega (arith, h.few_dimensions, length-range_with_len 0 (length model.dimensions)))
           (All-below (ReadsAs (λ earlier. plan) (dimension_tree model assignment v) (plan_printed model assignment v)) (length model.dimensions)
-          (λ d known earlier path. let few = h.names d known in plan_back (dimension_at model d) (plan_at assignment d v) path (h.plans d v known low e) (omega (arith, few))))
+          (λ d known earlier path. let few = h.names d known in
+          plan_back (dimension_at model d) (plan_at assignment d v) path (h.plans d v known low e) (omega (arith, few))))
 
-  route_back : (v : ℕ) (path : List ℕ) → v < length assignment.lists → printed_route model.nodes path (route_tree model assignment v) ≡ Ok (route_printed model assignment v)
+  route_back : (v : ℕ) (path : List ℕ) → v < length assignment.lists
+      → printed_route model.nodes path (route_tree model assignment v) ≡ Ok (route_printed model assignment v)
   unfolding printed_route route_tree required known if_unknown field if_present at_path and_then
   route_back v path low =
       step _ (plans_back v _ low)
       (step _ (nodes_back model.nodes (route_nodes model v (route assignment.lists v)) _ h.few_nodes (h.short v low) (h.nodes v low))
       (step _ (number_back (pos v) _ (record { at_least = omega (arith, ints); at_most = omega (arith, ints, low, h.few_vehicles) })) refl))
 
-  pub routes_back : (path : List ℕ) → all (printed_route model.nodes) path (routes_tree model assignment) ≡ Ok (map (route_printed model assignment) (below (length assignment.lists)))
+  pub routes_back : (path : List ℕ)
+      → all (printed_route model.nodes) path (routes_tree model assignment) ≡ Ok (map (route_printed model assignment) (below (length assignment.lists)))
   routes_back path =
-      array_each (λ earlier. printed_route model.nodes) (route_tree model assignment) (route_printed model assignment) 0 any_length path (below (length assignment.lists)) (omega arith)
+      array_each (λ earlier. printed_route model.nodes) (route_tree model assignment)
+      (route_printed model assignment) 0 any_length path (below (length assignment.lists)) (omega arith)
       (omega (arith, h.few_vehicles, length-range_with_len 0 (length assignment.lists)))
-      (All-below (ReadsAs (λ earlier. printed_route model.nodes) (route_tree model assignment) (route_printed model assignment)) (length assignment.lists) (λ v low earlier path. route_back v path low))
+      (All-below (ReadsAs (λ earlier. printed_route model.nodes) (route_tree model assignment) (route_printed model assignment))
+      (length assignment.lists) (λ v low earlier path. route_back v path low))
 
 -- ---- the solution
 
@@ -167,7 +179,15 @@ pub solution_back : (n : ℕ) (parts : Parts) (dropped : List ℕ) (tree : Data)
     → n ≤ 1000 → ArePrintableParts parts → All (λ node. node < n) dropped → length dropped ≤ any_length → IsPrintable first_cost
     → ((path : List ℕ) → all (printed_route n) path tree ≡ Ok routes) → report.solutions ≤ 1000000000 → report.tries ≤ 1000000000
     → solution n path (tree_of parts dropped tree first_cost report)
-    ≡ Ok (record { cost = sum_of parts; dropped = dropped; first_cost = first_cost; parts = parts; routes = routes; solutions = pos report.solutions; tries = pos report.tries })
+    ≡ Ok (record {
+      cost = sum_of parts;
+      dropped = dropped;
+      first_cost = first_cost;
+      parts = parts;
+      routes = routes;
+      solutions = pos report.solutions;
+      tries = pos report.tries;
+    })
 unfolding solution tree_of choice required known if_unknown field if_present at_path and_then
 solution_back n parts dropped tree routes first_cost report path small parts_ok dropped_ok few first_ok routes_ok solutions_few tries_few =
     step _ (number_back (sum_of parts) _ parts_ok.sum)

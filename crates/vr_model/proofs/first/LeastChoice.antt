@@ -25,7 +25,8 @@ module _ {A : Type 0} (key : A → List ℤ) where
 
   -- one entry more in front, which is greater than the least of the others
   behind : (y : A) (ys : List A) (best : A) → IsFirstLeast key ys best → less y best ≡ false → less best y ≡ true → IsFirstLeast key (y ∷ ys) best
-  behind y ys best f above greater = record { place = suc f.place; in_list = (let l = f.in_list in omega (arith, l)); stands_there = f.stands_there; least = least; first = first }
+  behind y ys best f above greater =
+      record { place = suc f.place; in_list = (let l = f.in_list in omega (arith, l)); stands_there = f.stands_there; least = least; first = first }
     where
       least : All (λ z. less z best ≡ false) (y ∷ ys)
       least zero d low = above
@@ -44,7 +45,10 @@ module _ {A : Type 0} (key : A → List ℤ) where
 
       taken : less y b ≡ true → (best : A) → IsBestOf y ys best → IsBestOf b (y ∷ ys) best
       taken e best (inl (same, none)) = inr (subst (IsFirstLeast key (y ∷ ys)) (sym same) (kept_first y ys none), ap (λ z. less z b) same ∙ e)
-      taken e best (inr (f, low)) = inr (behind y ys best f (fails (less y best) (λ t. less_self (key y) (less_trans (key y) (key best) (key y) t low))) low, less_trans (key best) (key y) (key b) low e)
+      taken e best (inr (f, low)) = inr (
+        behind y ys best f (fails (less y best) (λ t. less_self (key y) (less_trans (key y) (key best) (key y) t low))) low,
+        less_trans (key best) (key y) (key b) low e,
+      )
 
       left : less y b ≡ false → (best : A) → IsBestOf b ys best → IsBestOf b (y ∷ ys) best
       left e best (inl (same, none)) = inl (same, each)
@@ -52,12 +56,14 @@ module _ {A : Type 0} (key : A → List ℤ) where
           each : All (λ z. less z b ≡ false) (y ∷ ys)
           each zero d low = e
           each (suc k) d low = none k d (omega (arith, low))
-      left e best (inr (f, low)) = inr (behind y ys best f (fails (less y best) (λ t. clash (less y b) (less_trans (key y) (key best) (key b) t low) e)) above, low)
+      left e best (inr (f, low)) =
+          inr (behind y ys best f (fails (less y best) (λ t. clash (less y b) (less_trans (key y) (key best) (key b) t low) e)) above, low)
         where
           above : less best y ≡ true
           above = elim (less_split (key best) (key y) (key b) low) [ inl t ↦ t | inr t ↦ absurd (clash (less y b) t e) ]
 
-      go : ((c : A) → (best : A) × (fold (better key) (Some c) ys ≡ Some best) × IsBestOf c ys best) → (c : Bool) → less y b ≡ c → (best : A) × (fold (better key) (Some b) (y ∷ ys) ≡ Some best) × IsBestOf b (y ∷ ys) best
+      go : ((c : A) → (best : A) × (fold (better key) (Some c) ys ≡ Some best) × IsBestOf c ys best) → (c : Bool)
+          → less y b ≡ c → (best : A) × (fold (better key) (Some b) (y ∷ ys) ≡ Some best) × IsBestOf b (y ∷ ys) best
       go rest true e = let r = rest y in (r.0, after true e ∙ r.1, taken e r.0 r.2)
       go rest false e = let r = rest b in (r.0, after false e ∙ r.1, left e r.0 r.2)
 

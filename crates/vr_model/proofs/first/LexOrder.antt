@@ -62,7 +62,8 @@ less_split xs [] (z ∷ zs) h = inr refl
 less_split [] (y ∷ ys) (z ∷ zs) h = inl refl
 less_split (x ∷ xs) (y ∷ ys) (z ∷ zs) h = elim (compare x y) [
   | inl less ↦ inl (less_first x y xs ys less)
-  | inr (inr more) ↦ inr (less_first y z ys zs (elim (less_cases x z xs zs h) [ inl low ↦ omega (arith, ints, more, low) | inr (same, rest) ↦ omega (arith, ints, more, same) ]))
+  | inr (inr more) ↦ inr
+      (less_first y z ys zs (elim (less_cases x z xs zs h) [ inl low ↦ omega (arith, ints, more, low) | inr (same, rest) ↦ omega (arith, ints, more, same) ]))
   | inr (inl same) ↦ elim (less_cases x z xs zs h) [
     | inl low ↦ inr (less_first y z ys zs (omega (arith, ints, same, low)))
     | inr (equal, rest) ↦ elim (less_split xs ys zs rest) [

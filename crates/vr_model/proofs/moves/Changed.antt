@@ -1,24 +1,29 @@
 -- No move leaves lists of a model as they are.
-use Rattle.std.proofs.Common.{◌⊎◌, ◌≡◌, ◌≢◌, ◌∙◌, ℕ, suc, ◌+◌, ◌-◌, ◌<◌, ◌≤◌, true, false, ◌&&◌, ◌||◌, cond, List, [], ◌∷◌, ◌++◌, length, map, reverse, take, drop, refl, sym, ap, subst, inl, inr, arith, length-set, length-append}
+use Rattle.std.proofs.Common.{◌⊎◌, ◌≡◌, ◌≢◌, ◌∙◌, ℕ, suc, ◌+◌, ◌-◌, ◌<◌, ◌≤◌, true, false, ◌&&◌, ◌||◌, cond, List, [], ◌∷◌, ◌++◌, length, map, reverse, take}
+use Rattle.std.proofs.Common.{drop, refl, sym, ap, subst, inl, inr, arith, length-set, length-append}
 use Rattle.std.specs.Prelude.{IsTrue, ◌==◌, nat_lt, nat_le, slice_index, slice_range, slice_set, insert, remove}
 use Rattle.std.specs.List.{list_any}
 use Rattle.std.proofs.lemmas.Bool.{cases_lt}
 use Rattle.std.proofs.lemmas.Bool.Decides.{eqb_tells}
-use Rattle.std.proofs.lemmas.List.{get_or-set_same, get_or_append_left, get_or-append-add, get_or-reverse, get_or-take, get_or-drop, get_or-map, length-map, length-take-le, length-drop, length-reverse}
+use Rattle.std.proofs.lemmas.List.{get_or-set_same, get_or_append_left, get_or-append-add, get_or-reverse, get_or-take, get_or-drop, get_or-map, length-map}
+use Rattle.std.proofs.lemmas.List.{length-take-le, length-drop, length-reverse}
 use Rattle.vr_model.specs.deciding.Testing.{and_left, and_right, or_cases, test_of_eq}
 use Rattle.vr_model.specs.tables.Tables.{is_visit, pair_at}
 use Rattle.vr_model.specs.routes.Routes.{route, holds, is_same, is_active, are_lists}
-use Rattle.vr_model.specs.moves.Moves.{apply, with_route, reversed_between, chain_moved, with_pair, without_pair, is_pair_served, is_pair_inactive, has_chain, has_some_front}
+use Rattle.vr_model.specs.moves.Moves.{apply, with_route, reversed_between, chain_moved, with_pair, without_pair, is_pair_served, is_pair_inactive, has_chain}
+use Rattle.vr_model.specs.moves.Moves.{has_some_front}
 use Rattle.vr_model.specs.moves.MoveTests.{is_vehicle, is_place, is_gap, is_inactive, may_put_pair, is_move}
 use Rattle.vr_model.specs.moves.MoveLaws.{MovesChangeLists}
 use Rattle.vr_model.specs.declared.records.Model.{Model}
 use Rattle.vr_model.specs.declared.records.Pair.{Pair}
 use Rattle.vr_model.specs.declared.neighbours.Move.{Move}
-use Rattle.vr_model.specs.declared.neighbours.Move.TheVariants.{TwoOpt, OrOpt, Relocate, Exchange, Cross, MakeActive, MakeInactive, SwapActive, PairActive, PairInactive, RelocatePair}
+use Rattle.vr_model.specs.declared.neighbours.Move.TheVariants.{TwoOpt, OrOpt, Relocate, Exchange, Cross, MakeActive, MakeInactive, SwapActive, PairActive}
+use Rattle.vr_model.specs.declared.neighbours.Move.TheVariants.{PairInactive, RelocatePair}
 use Rattle.vr_model.proofs.tables.Tests.{clash, fails_not, lt_of_test}
 use Rattle.vr_model.proofs.routes.Lists.{route_set_same, route_set_other, is_same-self}
 use Rattle.vr_model.proofs.moves.Times.{hit, times, times_in, at_least_one, at_least_two, held_times, times_route, times_routes}
-use Rattle.vr_model.proofs.moves.Kept.{inactive_times, removed_times, inserted_times, pair_times, pickup_out, none_left, vehicle_of_test, place_of_test, order_of_test}
+use Rattle.vr_model.proofs.moves.Kept.{inactive_times, removed_times, inserted_times, pair_times, pickup_out, none_left, vehicle_of_test, place_of_test}
+use Rattle.vr_model.proofs.moves.Kept.{order_of_test}
 use Rattle.vr_model.proofs.moves.KeptLists.{few}
 
 hit-self : (x : ℕ) → hit x x ≡ 1
@@ -90,7 +95,8 @@ module _ (model : Model) (lists : List (List ℕ)) (are : IsTrue (are_lists mode
       omega (arith, two, all, one)
 
   -- nor do two lists
-  apart_between : (v w j k : ℕ) → v < w → j < length (route lists v) → k < length (route lists w) → slice_index (route lists v) j ≡ slice_index (route lists w) k → ⊥
+  apart_between : (v w j k : ℕ) → v < w → j < length (route lists v) → k < length (route lists w)
+      → slice_index (route lists v) j ≡ slice_index (route lists w) k → ⊥
   apart_between v w j k order low next e =
       let here = at_least_one (slice_index (route lists w) k) (route lists v) j low e in
       let there = at_least_one (slice_index (route lists w) k) (route lists w) k next refl in
@@ -104,18 +110,22 @@ module _ (model : Model) (lists : List (List ℕ)) (are : IsTrue (are_lists mode
 
   -- and of two
   set_first : (v w : ℕ) (list other : List ℕ) → v < length lists → v ≢ w → with_route (with_route lists v list) w other ≡ lists → list ≡ route lists v
-  set_first v w list other low apart e = sym (route_set_other (with_route lists v list) w v other apart ∙ route_set_same lists v list low) ∙ ap (λ ls. route ls v) e
+  set_first v w list other low apart e = sym (route_set_other (with_route lists v list) w v other apart ∙ route_set_same lists v list low)
+      ∙ ap (λ ls. route ls v) e
 
   set_second : (v w : ℕ) (list other : List ℕ) → w < length lists → with_route (with_route lists v list) w other ≡ lists → other ≡ route lists w
-  set_second v w list other low e = sym (route_set_same (with_route lists v list) w other (omega (arith, low, length-set lists v list))) ∙ ap (λ ls. route ls w) e
+  set_second v w list other low e = sym (route_set_same (with_route lists v list) w other (omega (arith, low, length-set lists v list)))
+      ∙ ap (λ ls. route ls w) e
 
   exchanged : (v a w b : ℕ) → v < length lists → w < length lists → a < length (route lists v) → b < length (route lists w)
-      → (((v == w) ≡ true) × (v ≡ w)) ⊎ (((v == w) ≡ false) × (v ≢ w)) → ((v == w) ≡ true → a < b) → ((v == w) ≡ false → v < w) → apply model lists (Exchange v a w b) ≢ lists
+      → (((v == w) ≡ true) × (v ≡ w)) ⊎ (((v == w) ≡ false) × (v ≢ w)) → ((v == w) ≡ true → a < b)
+      → ((v == w) ≡ false → v < w) → apply model lists (Exchange v a w b) ≢ lists
   exchanged v a w b low next place other same within between e = elim same [
     | inl one ↦ (
         let list : List ℕ = slice_set (route lists v) a (slice_index (route lists w) b) in
         let row : route (with_route lists v list) w ≡ list = ap (route (with_route lists v list)) (sym one.1) ∙ route_set_same lists v list low in
-        let there : b < length (route (with_route lists v list) w) = (let m = length-set (route lists v) a (slice_index (route lists w) b) in let r = ap length row in let u = ap (λ u. length (route lists u)) one.1 in omega (arith, other, m, r, u)) in
+        let there : b < length (route (with_route lists v list) w) = (let m = length-set (route lists v) a (slice_index (route lists w) b) in
+        let r = ap length row in let u = ap (λ u. length (route lists u)) one.1 in omega (arith, other, m, r, u)) in
         let put = get_or-set_same (route (with_route lists v list) w) b (slice_index (route lists v) a) 0 there in
         let found = ap (λ l. slice_index l b) (set_second v w list (slice_set (route (with_route lists v list) w) b (slice_index (route lists v) a)) next e) in
         apart_in w a b (within one.0) other (ap (λ u. slice_index (route lists u) a) (sym one.1) ∙ sym put ∙ found))
@@ -125,7 +135,8 @@ module _ (model : Model) (lists : List (List ℕ)) (are : IsTrue (are_lists mode
         apart_between v w a b (between two.0) place other (sym found ∙ put))
   ]
 
-  crossed : (v a w b : ℕ) → v < length lists → v < w → a ≤ length (route lists v) → b ≤ length (route lists w) → ((a ≡ 0) → (b ≡ 0) → ⊥) → apply model lists (Cross v a w b) ≢ lists
+  crossed : (v a w b : ℕ) → v < length lists → v < w → a ≤ length (route lists v)
+      → b ≤ length (route lists w) → ((a ≡ 0) → (b ≡ 0) → ⊥) → apply model lists (Cross v a w b) ≢ lists
   crossed v a w b low order front other some e =
       let same = set_first v w (take b (route lists w) ++ drop a (route lists v)) _ low (λ u. omega (arith, u, order)) e in
       let long = ap length same in
@@ -135,16 +146,19 @@ module _ (model : Model) (lists : List (List ℕ)) (are : IsTrue (are_lists mode
       let equal : a ≡ b = omega (arith, long, joined, taken, left, front) in
       elim (cases_lt 0 b) [
         | inl more ↦ apart_between v w 0 0 order (omega (arith, equal, front, more)) (omega (arith, other, more))
-            (sym (ap (λ l. slice_index l 0) same) ∙ get_or_append_left (take b (route lists w)) (drop a (route lists v)) 0 0 (omega (arith, taken, more)) ∙ get_or-take b (route lists w) 0 0 more)
+            (sym (ap (λ l. slice_index l 0) same) ∙ get_or_append_left (take b (route lists w)) (drop a (route lists v)) 0 0 (omega (arith, taken, more))
+            ∙ get_or-take b (route lists w) 0 0 more)
         | inr none ↦ some (omega (arith, equal, none)) (omega (arith, none))
       ]
 
-  pair_replaced : (pair : Pair) (w s t : ℕ) → w < length lists → with_route (map (without_pair pair) lists) w (with_pair pair s t (route (map (without_pair pair) lists) w)) ≡ lists
+  pair_replaced : (pair : Pair) (w s t : ℕ) → w < length lists
+      → with_route (map (without_pair pair) lists) w (with_pair pair s t (route (map (without_pair pair) lists) w)) ≡ lists
       → with_pair pair s t (without_pair pair (route lists w)) ≡ route lists w
   pair_replaced pair w s t low e =
       let many : length (map (without_pair pair) lists) ≡ length lists = length-map lists (without_pair pair) in
       ap (with_pair pair s t) (sym (get_or-map (without_pair pair) lists w [] [] low))
-      ∙ sym (route_set_same (map (without_pair pair) lists) w (with_pair pair s t (route (map (without_pair pair) lists) w)) (omega (arith, low, many))) ∙ ap (λ ls. route ls w) e
+      ∙ sym (route_set_same (map (without_pair pair) lists) w (with_pair pair s t (route (map (without_pair pair) lists) w)) (omega (arith, low, many)))
+      ∙ ap (λ ls. route ls w) e
 
   pub changed : (mv : Move) → IsTrue (is_move model lists mv) → apply model lists mv ≢ lists
   changed (TwoOpt v a b) h e =
@@ -159,10 +173,13 @@ module _ (model : Model) (lists : List (List ℕ)) (are : IsTrue (are_lists mode
       let last = and_right (has_chain (route lists v) a k) _ rest in
       let low : v < length lists = vehicle_of_test model lists v (and_left (is_vehicle lists v) _ h) in
       let some : 1 ≤ k = order_of_test model lists 1 k (and_left (nat_le 1 k) _ lengths) in
-      let chain : a + k ≤ length (route lists v) = order_of_test model lists (a + k) (length (route lists v)) (and_left (has_chain (route lists v) a k) _ rest) in
-      let place : t ≤ length (route lists v) - k = order_of_test model lists t (length (route lists v) - k) (and_left (nat_le t (length (route lists v) - k)) _ last) in
+      let chain : a + k ≤ length (route lists v) = order_of_test model lists (a + k)
+      (length (route lists v)) (and_left (has_chain (route lists v) a k) _ rest) in
+      let place : t ≤ length (route lists v) - k = order_of_test model lists t
+      (length (route lists v) - k) (and_left (nat_le t (length (route lists v) - k)) _ last) in
       let other : (a == t) ≡ false = fails_not (a == t) (and_right (nat_le t (length (route lists v) - k)) _ last) in
-      let same : slice_index (route lists v) t ≡ slice_index (route lists v) a = sym (ap (λ l. slice_index l t) (set_one v _ low e)) ∙ first_moved (route lists v) a k t some chain place in
+      let same : slice_index (route lists v) t ≡ slice_index (route lists v) a = sym (ap (λ l. slice_index l t) (set_one v _ low e))
+      ∙ first_moved (route lists v) a k t some chain place in
       elim (cases_lt a t) [
         | inl more ↦ apart_in v a t more (omega (arith, place, some, chain)) (sym same)
         | inr less ↦ elim (cases_lt t a) [
@@ -203,14 +220,17 @@ module _ (model : Model) (lists : List (List ℕ)) (are : IsTrue (are_lists mode
       let rest = and_right (is_pair_served model lists p) _ h in
       let numbers = and_left (may_put_pair model lists p w (length (without_pair pair (route lists w))) s t) _ rest in
       let low : w < length lists = vehicle_of_test model lists w (and_left (is_vehicle lists w) _ (and_right (nat_lt p (length model.pairs)) _ numbers)) in
-      let new = fails_not (is_same (with_pair pair s t (without_pair pair (route lists w))) (route lists w)) (and_right (may_put_pair model lists p w (length (without_pair pair (route lists w))) s t) _ rest) in
+      let new = fails_not (is_same (with_pair pair s t (without_pair pair (route lists w))) (route lists w))
+      (and_right (may_put_pair model lists p w (length (without_pair pair (route lists w))) s t) _ rest) in
       let same = pair_replaced pair w s t low e in
-      clash (is_same (with_pair pair s t (without_pair pair (route lists w))) (route lists w)) (subst (λ l. IsTrue (is_same l (route lists w))) (sym same) (is_same-self (route lists w))) new
+      clash (is_same (with_pair pair s t (without_pair pair (route lists w))) (route lists w))
+      (subst (λ l. IsTrue (is_same l (route lists w))) (sym same) (is_same-self (route lists w))) new
   changed (PairActive p w s t) h e =
       let pair = pair_at model p in
       let rest = and_right (is_pair_inactive model lists p) _ h in
       let low : w < length lists = vehicle_of_test model lists w (and_left (is_vehicle lists w) _ (and_right (nat_lt p (length model.pairs)) _ rest)) in
-      let order : s ≤ t = order_of_test model lists s t (and_left (nat_le s t) _ (and_right (is_vehicle lists w) _ (and_right (nat_lt p (length model.pairs)) _ rest))) in
+      let order : s ≤ t = order_of_test model lists s t
+      (and_left (nat_le s t) _ (and_right (is_vehicle lists w) _ (and_right (nat_lt p (length model.pairs)) _ rest))) in
       let same = ap (times pair.pickup) (set_one w _ low e) in
       let more = pair_times pair.pickup (route lists w) s t pair.pickup pair.delivery order in
       let one = hit-self pair.pickup in

@@ -1,5 +1,6 @@
 -- No move makes a node stand more often.
-use Rattle.std.proofs.Common.{◌⊎◌, ◌≡◌, ◌≢◌, ◌∙◌, ℕ, zero, suc, ◌+◌, ◌<◌, ◌≤◌, Bool, true, false, cond, not, ◌||◌, map, List, [], ◌∷◌, ◌++◌, length, reverse, take, drop, drop-cons, refl, sym, ap, subst, inl, inr, arith, length-set}
+use Rattle.std.proofs.Common.{◌⊎◌, ◌≡◌, ◌≢◌, ◌∙◌, ℕ, zero, suc, ◌+◌, ◌<◌, ◌≤◌, Bool, true, false, cond, not, ◌||◌, map, List, [], ◌∷◌, ◌++◌, length, reverse}
+use Rattle.std.proofs.Common.{take, drop, drop-cons, refl, sym, ap, subst, inl, inr, arith, length-set}
 use Rattle.std.specs.Prelude.{IsTrue, ◌==◌, nat_lt, nat_le, filter, slice_index_or, slice_index, slice_range, slice_set, insert, remove}
 use Rattle.std.proofs.lemmas.List.{get_or-set_other}
 use Rattle.std.proofs.Math.Dec.{eqb}
@@ -18,7 +19,8 @@ use Rattle.vr_model.specs.declared.records.Pair.{Pair}
 use Rattle.vr_model.specs.moves.MoveTests.{is_vehicle, is_place, is_inactive, may_put_pair, is_move}
 use Rattle.vr_model.specs.declared.records.Model.{Model}
 use Rattle.vr_model.specs.declared.neighbours.Move.{Move}
-use Rattle.vr_model.specs.declared.neighbours.Move.TheVariants.{TwoOpt, OrOpt, Relocate, Exchange, Cross, MakeActive, MakeInactive, SwapActive, PairActive, PairInactive, RelocatePair}
+use Rattle.vr_model.specs.declared.neighbours.Move.TheVariants.{TwoOpt, OrOpt, Relocate, Exchange, Cross, MakeActive, MakeInactive, SwapActive, PairActive}
+use Rattle.vr_model.specs.declared.neighbours.Move.TheVariants.{PairInactive, RelocatePair}
 use Rattle.std.proofs.lemmas.List.{length-map}
 use Rattle.vr_model.proofs.routes.Lists.{route_set_same, route_set_other, held_at, is_active-concat}
 use Rattle.vr_model.proofs.moves.Times.{times, times_in, hit, times_append, times_split, times_reverse, times_set, here_or_later, joined_times, times_held}
@@ -26,7 +28,8 @@ use Rattle.vr_model.proofs.moves.Times.{times, times_in, hit, times_append, time
 -- a number that is in no list stands in none
 pub inactive_times : (lists : List (List ℕ)) (x : ℕ) → is_active lists x ≡ false → times_in x lists ≡ 0
 inactive_times lists x none = elim (cases_lt 0 (times_in x lists)) [
-  | inl some ↦ absurd (clash (holds (concat lists) x) (times_held x (concat lists) (let e = joined_times x lists in omega (arith, some, e))) (sym (is_active-concat lists x) ∙ none))
+  | inl some ↦ absurd (clash (holds (concat lists) x)
+      (times_held x (concat lists) (let e = joined_times x lists in omega (arith, some, e))) (sym (is_active-concat lists x) ∙ none))
   | inr free ↦ omega (arith, free)
 ]
 
@@ -35,7 +38,8 @@ inactive_times lists x none = elim (cases_lt 0 (times_in x lists)) [
 reversed_times : (x : ℕ) (xs : List ℕ) (a e : ℕ) → a ≤ e → times x (reversed_between xs a e) ≡ times x xs
 reversed_times x xs a e low =
     let whole = times_split x a xs in
-    let rest : times x (drop a xs) ≡ times x (slice_range xs a e) + times x (drop e xs) = ap (times x) (drop_split xs a e low) ∙ times_append x (slice_range xs a e) (drop e xs) in
+    let rest : times x (drop a xs) ≡ times x (slice_range xs a e) + times x (drop e xs) = ap (times x) (drop_split xs a e low)
+    ∙ times_append x (slice_range xs a e) (drop e xs) in
     let mid = times_reverse x (slice_range xs a e) in
     let one = times_append x (take a xs) (reverse (slice_range xs a e) ++ drop e xs) in
     let two = times_append x (reverse (slice_range xs a e)) (drop e xs) in
@@ -46,7 +50,8 @@ moved_times x xs a k t =
     let rest : List ℕ = take a xs ++ drop (a + k) xs in
     let chain : List ℕ = slice_range xs a (a + k) in
     let whole = times_split x a xs in
-    let tail : times x (drop a xs) ≡ times x chain + times x (drop (a + k) xs) = ap (times x) (drop_split xs a (a + k) (omega arith)) ∙ times_append x chain (drop (a + k) xs) in
+    let tail : times x (drop a xs) ≡ times x chain + times x (drop (a + k) xs) = ap (times x) (drop_split xs a (a + k) (omega arith))
+    ∙ times_append x chain (drop (a + k) xs) in
     let parts = times_append x (take a xs) (drop (a + k) xs) in
     let cut = times_split x t rest in
     let one = times_append x (take t rest) (chain ++ drop t rest) in
@@ -71,22 +76,26 @@ replaced_times x [] a y low = absurd (omega (arith, low))
 replaced_times x (z ∷ zs) zero y low = omega arith
 replaced_times x (z ∷ zs) (suc a) y low = let r = replaced_times x zs a y (omega (arith, low)) in omega (arith, r)
 
-pub pair_times : (x : ℕ) (xs : List ℕ) (s t p d : ℕ) → s ≤ t → times x (take s xs ++ (p ∷ (slice_range xs s t ++ (d ∷ drop t xs)))) ≡ times x xs + (hit x p + hit x d)
+pub pair_times : (x : ℕ) (xs : List ℕ) (s t p d : ℕ) → s ≤ t
+    → times x (take s xs ++ (p ∷ (slice_range xs s t ++ (d ∷ drop t xs)))) ≡ times x xs + (hit x p + hit x d)
 pair_times x xs s t p d order =
     let whole = times_split x s xs in
-    let rest : times x (drop s xs) ≡ times x (slice_range xs s t) + times x (drop t xs) = ap (times x) (drop_split xs s t order) ∙ times_append x (slice_range xs s t) (drop t xs) in
+    let rest : times x (drop s xs) ≡ times x (slice_range xs s t) + times x (drop t xs) = ap (times x) (drop_split xs s t order)
+    ∙ times_append x (slice_range xs s t) (drop t xs) in
     let one = times_append x (take s xs) (p ∷ (slice_range xs s t ++ (d ∷ drop t xs))) in
     let two = times_append x (slice_range xs s t) (d ∷ drop t xs) in
     omega (arith, whole, rest, one, two)
 
 -- the two nodes of a pair are two
-pub pair_apart : (ps : List Pair) (p : ℕ) → p < length ps → IsTrue (is_distinct (each ps pair_nodes)) → (slice_index_or ps p (record { pickup = 0; delivery = 0 })).pickup ≢ (slice_index_or ps p (record { pickup = 0; delivery = 0 })).delivery
+pub pair_apart : (ps : List Pair) (p : ℕ) → p < length ps → IsTrue (is_distinct (each ps pair_nodes))
+    → (slice_index_or ps p (record { pickup = 0; delivery = 0 })).pickup ≢ (slice_index_or ps p (record { pickup = 0; delivery = 0 })).delivery
 pair_apart [] p low h = absurd (omega (arith, low))
 pair_apart (q ∷ qs) zero low h = λ e.
     clash (holds (q.delivery ∷ each qs pair_nodes) q.pickup) (held_at (q.delivery ∷ each qs pair_nodes) q.pickup 0 (omega arith) (sym e))
     (fails_not (holds (q.delivery ∷ each qs pair_nodes) q.pickup) (and_left (not (holds (q.delivery ∷ each qs pair_nodes) q.pickup)) _ h))
 pair_apart (q ∷ qs) (suc p) low h =
-    pair_apart qs p (omega (arith, low)) (and_right (not (holds (each qs pair_nodes) q.delivery)) _ (and_right (not (holds (q.delivery ∷ each qs pair_nodes) q.pickup)) _ h))
+    pair_apart qs p (omega (arith, low))
+    (and_right (not (holds (each qs pair_nodes) q.delivery)) _ (and_right (not (holds (q.delivery ∷ each qs pair_nodes) q.pickup)) _ h))
 
 -- ---- lists without a pair
 
@@ -132,7 +141,8 @@ fewer_without pair (l ∷ ls) x =
     let later = fewer_without pair ls x in
     omega (arith, here, later)
 
-pub none_left : (pair : Pair) (lists : List (List ℕ)) (x : ℕ) → not ((x == pair.pickup) || (x == pair.delivery)) ≡ false → times_in x (map (without_pair pair) lists) ≡ 0
+pub none_left : (pair : Pair) (lists : List (List ℕ)) (x : ℕ)
+    → not ((x == pair.pickup) || (x == pair.delivery)) ≡ false → times_in x (map (without_pair pair) lists) ≡ 0
 none_left pair [] x out = refl
 none_left pair (l ∷ ls) x out =
     let here = none_of_filter (λ node. not ((node == pair.pickup) || (node == pair.delivery))) x l out in
@@ -155,7 +165,8 @@ module _ (model : Model) (lists : List (List ℕ)) where
   fewer_in_one : (x v : ℕ) (list : List ℕ) → v < length lists → times x list ≡ times x (route lists v) → times_in x (slice_set lists v list) ≤ times_in x lists
   fewer_in_one x v list low same = let whole = times_set x lists v list low in omega (arith, whole, same)
 
-  fewer_in_two : (x v w n : ℕ) (list other : List ℕ) → v < length lists → w < length lists → v ≢ w → times x list + n ≡ times x (route lists v) → times x other ≡ times x (route lists w) + n
+  fewer_in_two : (x v w n : ℕ) (list other : List ℕ) → v < length lists → w < length lists → v ≢ w
+      → times x list + n ≡ times x (route lists v) → times x other ≡ times x (route lists w) + n
       → times_in x (slice_set (slice_set lists v list) w other) ≤ times_in x lists
   fewer_in_two x v w n list other low low_w apart less more =
       let one = times_set x lists v list low in
@@ -204,12 +215,14 @@ module _ (model : Model) (lists : List (List ℕ)) where
       omega (arith, one, put, two, put_two, found)
     where
       kept : (v a w b y : ℕ) → v < length lists → ((v == w) ≡ true → a < b) → ((eqb v w ≡ true) × (v ≡ w)) ⊎ ((eqb v w ≡ false) × (v ≢ w))
-          → (slice_index (route (slice_set lists v (slice_set (route lists v) a y)) w) b ≡ slice_index (route lists w) b) × (length (route (slice_set lists v (slice_set (route lists v) a y)) w) ≡ length (route lists w))
+          → (slice_index (route (slice_set lists v (slice_set (route lists v) a y)) w) b ≡ slice_index (route lists w) b)
+          × (length (route (slice_set lists v (slice_set (route lists v) a y)) w) ≡ length (route lists w))
       kept v a w b y low behind (inl same) =
           let order = behind same.0 in
           let list : List ℕ = slice_set (route lists v) a y in
           let row : route (slice_set lists v list) w ≡ list = ap (route (slice_set lists v list)) (sym same.1) ∙ route_set_same lists v list low in (
-            ap (λ l. slice_index l b) row ∙ get_or-set_other (route lists v) a b y 0 (λ e. omega (arith, e, order)) ∙ ap (λ u. slice_index (route lists u) b) same.1,
+            ap (λ l. slice_index l b) row ∙ get_or-set_other (route lists v) a b y 0 (λ e. omega (arith, e, order))
+                ∙ ap (λ u. slice_index (route lists u) b) same.1,
             ap length row ∙ length-set (route lists v) a y ∙ ap (λ u. length (route lists u)) same.1,
           )
       kept v a w b y low behind (inr other) =
@@ -224,7 +237,8 @@ module _ (model : Model) (lists : List (List ℕ)) where
       let one = times_set x lists v list low in
       let there : w < length (slice_set lists v list) = omega (arith, low_w, length-set lists v list) in
       let two = times_set x (slice_set lists v list) w more there in
-      let same : times x (route (slice_set lists v list) w) ≡ times x (route lists w) = ap (times x) (route_set_other lists v w list (λ e. omega (arith, e, order))) in
+      let same : times x (route (slice_set lists v list) w) ≡ times x (route lists w) = ap (times x)
+      (route_set_other lists v w list (λ e. omega (arith, e, order))) in
       let cut_v = times_split x a (route lists v) in
       let cut_w = times_split x b (route lists w) in
       let join_v = times_append x (take b (route lists w)) (drop a (route lists v)) in
@@ -260,7 +274,8 @@ module _ (model : Model) (lists : List (List ℕ)) where
       let whole = times_set x lists v list low in
       elim (here_or_later x u) [
         | inl same ↦ (
-            let none : times_in x lists ≡ 0 = ap (λ y. times_in y lists) same.0 ∙ inactive_times lists u (fails_not (is_active lists u) (and_right (is_visit model u) _ idle)) in
+            let none : times_in x lists ≡ 0 = ap (λ y. times_in y lists) same.0
+            ∙ inactive_times lists u (fails_not (is_active lists u) (and_right (is_visit model u) _ idle)) in
             let one = same.1 in
             inr (omega (arith, whole, more, none, one), subst (λ y. IsTrue (is_visit model y)) (sym same.0) (and_left (is_visit model u) _ idle)))
         | inr other ↦ inl (omega (arith, whole, more, other))
@@ -330,7 +345,9 @@ module _ (model : Model) (lists : List (List ℕ)) where
       let numbers = and_left (may_put_pair model lists p w (length (without_pair pair (route lists w))) s t) _ rest in
       let low_p : p < length model.pairs = pair_of_test p (and_left (nat_lt p (length model.pairs)) _ numbers) in
       let low : w < length lists = vehicle_of_test w (and_left (is_vehicle lists w) _ (and_right (nat_lt p (length model.pairs)) _ numbers)) in
-      let order : s ≤ t = order_of_test s t (and_left (nat_le s t) _ (and_right (is_vehicle lists w) _ (and_right (nat_lt p (length model.pairs)) _ numbers))) in
+      let order : s ≤ t = order_of_test s t
+      (and_left (nat_le s t) _ (and_right (is_vehicle lists w) _ (and_right (nat_lt p (length model.pairs)) _ numbers))) in
       let out : List (List ℕ) = map (without_pair pair) lists in
       let fewer = fewer_without pair lists x in
-      put_in_pair well p out w s t low_p (omega (arith, low, length-map lists (without_pair pair))) order (none_left pair lists pair.pickup (pickup_out pair)) (none_left pair lists pair.delivery (delivery_out pair)) x fewer
+      put_in_pair well p out w s t low_p (omega (arith, low, length-map lists (without_pair pair))) order
+      (none_left pair lists pair.pickup (pickup_out pair)) (none_left pair lists pair.delivery (delivery_out pair)) x fewer

@@ -12,7 +12,8 @@ use Rattle.vr_model.specs.moves.MoveTests.{is_move}
 use Rattle.vr_model.specs.moves.MoveLaws.{MovesKeepLists}
 use Rattle.vr_model.specs.declared.records.Model.{Model}
 use Rattle.vr_model.specs.declared.neighbours.Move.{Move}
-use Rattle.vr_model.specs.declared.neighbours.Move.TheVariants.{TwoOpt, OrOpt, Relocate, Exchange, Cross, MakeActive, MakeInactive, SwapActive, PairActive, PairInactive, RelocatePair}
+use Rattle.vr_model.specs.declared.neighbours.Move.TheVariants.{TwoOpt, OrOpt, Relocate, Exchange, Cross, MakeActive, MakeInactive, SwapActive, PairActive}
+use Rattle.vr_model.specs.declared.neighbours.Move.TheVariants.{PairInactive, RelocatePair}
 use Rattle.vr_model.proofs.moves.Times.{times, times_in, joined_times, held_times, times_held, distinct_of_times, times_of_distinct, all_held, all_of_held}
 use Rattle.vr_model.proofs.moves.Kept.{kept}
 
@@ -34,13 +35,15 @@ module _ (model : Model) (lists : List (List ℕ)) (are : IsTrue (are_lists mode
   -- each visit stands once at most
   pub few : (x : ℕ) → times_in x lists ≤ 1
   few x =
-      let one = times_of_distinct (concat lists) (and_right (list_all (is_visit model) (concat lists)) _ (and_right (length lists == length model.vehicles) _ are)) x in
+      let one = times_of_distinct (concat lists)
+      (and_right (list_all (is_visit model) (concat lists)) _ (and_right (length lists == length model.vehicles) _ are)) x in
       let same = joined_times x lists in
       omega (arith, one, same)
 
   -- what stands there is a visit
   standing : (x : ℕ) → 1 ≤ times_in x lists → IsTrue (is_visit model x)
-  standing x some = all_held (is_visit model) (concat lists) (and_left (list_all (is_visit model) (concat lists)) _ (and_right (length lists == length model.vehicles) _ are)) x
+  standing x some = all_held (is_visit model) (concat lists)
+      (and_left (list_all (is_visit model) (concat lists)) _ (and_right (length lists == length model.vehicles) _ are)) x
       (times_held x (concat lists) (let same = joined_times x lists in omega (arith, some, same)))
 
   module _ (well : IsWellFormed model) (mv : Move) (h : IsTrue (is_move model lists mv)) where
@@ -60,8 +63,10 @@ module _ (model : Model) (lists : List (List ℕ)) (are : IsTrue (are_lists mode
 
     pub lists_after : IsTrue (are_lists model (apply model lists mv))
     lists_after = and_both (length (apply model lists mv) == length model.vehicles) _
-        (test_of_eq (length (apply model lists mv)) (length model.vehicles) (as_many model lists mv ∙ eq_of_test (length lists) (length model.vehicles) (and_left (length lists == length model.vehicles) _ are)))
-        (and_both (list_all (is_visit model) (concat (apply model lists mv))) _ (all_of_held (is_visit model) (concat (apply model lists mv)) visit_after) (distinct_of_times (concat (apply model lists mv)) few_after))
+        (test_of_eq (length (apply model lists mv)) (length model.vehicles)
+        (as_many model lists mv ∙ eq_of_test (length lists) (length model.vehicles) (and_left (length lists == length model.vehicles) _ are)))
+        (and_both (list_all (is_visit model) (concat (apply model lists mv))) _
+        (all_of_held (is_visit model) (concat (apply model lists mv)) visit_after) (distinct_of_times (concat (apply model lists mv)) few_after))
 
 pub moves_keep_lists : MovesKeepLists
 moves_keep_lists model well lists mv are h = lists_after model lists are well mv h

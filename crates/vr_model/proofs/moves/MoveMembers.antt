@@ -5,15 +5,18 @@ use Rattle.std.specs.Prelude.{IsTrue, ◌==◌, nat_lt, nat_le, filter}
 use Rattle.vr_model.specs.tables.Numbers.{below, from_to, each}
 use Rattle.vr_model.specs.tables.Tables.{pair_at, is_visit, visits}
 use Rattle.vr_model.specs.routes.Routes.{route, vehicles, is_active, inactive}
-use Rattle.vr_model.specs.moves.Moves.{places, gaps, pairs, places_behind, without_pair, is_pair_served, is_pair_together, is_pair_inactive, has_chain, is_other, has_some_front, changes_the_list, moves_in, moves_over, all_neighbourhoods}
+use Rattle.vr_model.specs.moves.Moves.{places, gaps, pairs, places_behind, without_pair, is_pair_served, is_pair_together, is_pair_inactive, has_chain}
+use Rattle.vr_model.specs.moves.Moves.{is_other, has_some_front, changes_the_list, moves_in, moves_over, all_neighbourhoods}
 use Rattle.vr_model.specs.moves.MoveTests.{is_vehicle, is_place, is_gap, is_inactive, may_put_pair, is_move, MovesAsTested}
 use Rattle.vr_model.specs.deciding.Testing.{and_left, and_right, and_both}
 use Rattle.vr_model.specs.declared.records.Model.{Model}
 use Rattle.vr_model.specs.declared.neighbours.Move.{Move}
-use Rattle.vr_model.specs.declared.neighbours.Move.TheVariants.{TwoOpt, OrOpt, Relocate, Exchange, Cross, RelocatePair, PairActive, PairInactive, MakeActive, MakeInactive, SwapActive}
+use Rattle.vr_model.specs.declared.neighbours.Move.TheVariants.{TwoOpt, OrOpt, Relocate, Exchange, Cross, RelocatePair, PairActive, PairInactive, MakeActive}
+use Rattle.vr_model.specs.declared.neighbours.Move.TheVariants.{MakeInactive, SwapActive}
 use Rattle.vr_model.specs.declared.neighbours.Neighbourhood.{Neighbourhood}
 use Rattle.vr_model.specs.declared.neighbours.Neighbourhood.TheVariants as all
-use Rattle.vr_model.proofs.tables.Members.{In, of_contains, to_contains, from_each, to_each, from_map, to_map, of_filter, to_filter, of_below, to_below, of_from_to, to_from_to}
+use Rattle.vr_model.proofs.tables.Members.{In, of_contains, to_contains, from_each, to_each, from_map, to_map, of_filter, to_filter, of_below, to_below}
+use Rattle.vr_model.proofs.tables.Members.{of_from_to, to_from_to}
 
 module _ (model : Model) (lists : List (List ℕ)) where
   -- each move of a neighbourhood passes the test
@@ -84,7 +87,8 @@ module _ (model : Model) (lists : List (List ℕ)) where
       let t_there = of_filter (is_other a) (below (suc (length (route lists v) - k))) t ht in
       moved mv (OrOpt v a k t) e (numbers v a k t (of_below _ v hv) range.0 range.1 k_there.1 (of_below _ t t_there.0) t_there.1)
     where
-      numbers : (v a k t : ℕ) → v < length lists → 1 ≤ k → k < 4 → IsTrue (has_chain (route lists v) a k) → t < suc (length (route lists v) - k) → IsTrue (is_other a t) → IsTrue (is_move model lists (OrOpt v a k t))
+      numbers : (v a k t : ℕ) → v < length lists → 1 ≤ k → k < 4 → IsTrue (has_chain (route lists v) a k)
+          → t < suc (length (route lists v) - k) → IsTrue (is_other a t) → IsTrue (is_move model lists (OrOpt v a k t))
       numbers v a k t hv low high within_list ht other = Prim.grind arith
 
   one_or_opt : (v a k t : ℕ) → IsOne all.OrOpt (OrOpt v a k t)
@@ -97,8 +101,10 @@ module _ (model : Model) (lists : List (List ℕ)) where
       let ht : t < suc (length (route lists v) - k) = Prim.grind arith in
       let other : IsTrue (is_other a t) = Prim.grind arith in
       to_each _ (vehicles lists) v _ (to_below _ _ hv) (to_each _ (places (route lists v)) a _ (to_below _ _ there)
-      (to_each _ (filter (has_chain (route lists v) a) (from_to 1 4)) k _ (to_filter (has_chain (route lists v) a) (from_to 1 4) k (to_from_to 1 4 k low high) within_list)
-      (to_map (OrOpt v a k) (filter (is_other a) (below (suc (length (route lists v) - k)))) t (to_filter (is_other a) (below (suc (length (route lists v) - k))) t (to_below _ _ ht) other))))
+      (to_each _ (filter (has_chain (route lists v) a) (from_to 1 4)) k _
+      (to_filter (has_chain (route lists v) a) (from_to 1 4) k (to_from_to 1 4 k low high) within_list)
+      (to_map (OrOpt v a k) (filter (is_other a) (below (suc (length (route lists v) - k)))) t
+      (to_filter (is_other a) (below (suc (length (route lists v) - k))) t (to_below _ _ ht) other))))
 
   -- ---- between two lists
 
@@ -113,7 +119,8 @@ module _ (model : Model) (lists : List (List ℕ)) where
       let w_there = of_filter (is_other v) (vehicles lists) w hw in
       moved mv (Relocate v a w t) e (numbers v a w t (of_below _ v hv) (of_below _ a ha) (of_below _ w w_there.0) w_there.1 (of_below _ t ht))
     where
-      numbers : (v a w t : ℕ) → v < length lists → a < length (route lists v) → w < length lists → IsTrue (is_other v w) → t < suc (length (route lists w)) → IsTrue (is_move model lists (Relocate v a w t))
+      numbers : (v a w t : ℕ) → v < length lists → a < length (route lists v) → w < length lists
+          → IsTrue (is_other v w) → t < suc (length (route lists w)) → IsTrue (is_move model lists (Relocate v a w t))
       numbers v a w t hv ha hw other ht = Prim.grind arith
 
   one_relocate : (v a w t : ℕ) → IsOne all.Relocate (Relocate v a w t)
@@ -124,7 +131,8 @@ module _ (model : Model) (lists : List (List ℕ)) where
       let other : IsTrue (is_other v w) = Prim.grind arith in
       let ht : t < suc (length (route lists w)) = Prim.grind arith in
       to_each _ (vehicles lists) v _ (to_below _ _ hv) (to_each _ (places (route lists v)) a _ (to_below _ _ ha)
-      (to_each (relocates v a) (filter (is_other v) (vehicles lists)) w (Relocate v a w t) (to_filter (is_other v) (vehicles lists) w (to_below _ _ hw) other) (to_map (Relocate v a w) (gaps (route lists w)) t (to_below _ _ ht))))
+      (to_each (relocates v a) (filter (is_other v) (vehicles lists)) w (Relocate v a w t)
+      (to_filter (is_other v) (vehicles lists) w (to_below _ _ hw) other) (to_map (Relocate v a w) (gaps (route lists w)) t (to_below _ _ ht))))
 
   abbrev exchanges : ℕ → ℕ → ℕ → List Move
   exchanges v a w = map (Exchange v a w) (places_behind lists v a w)
@@ -138,7 +146,8 @@ module _ (model : Model) (lists : List (List ℕ)) where
       let b_there = of_from_to _ (length (route lists w)) b hb in
       moved mv (Exchange v a w b) e (numbers v a w b (of_below _ v hv) (of_below _ a ha) w_there.0 w_there.1 (v == w) refl b_there.0 b_there.1)
     where
-      numbers : (v a w b : ℕ) → v < length lists → a < length (route lists v) → v ≤ w → w < length lists → (c : Bool) → (v == w) ≡ c → cond c (suc a) 0 ≤ b → b < length (route lists w) → IsTrue (is_move model lists (Exchange v a w b))
+      numbers : (v a w b : ℕ) → v < length lists → a < length (route lists v) → v ≤ w → w < length lists → (c : Bool)
+          → (v == w) ≡ c → cond c (suc a) 0 ≤ b → b < length (route lists w) → IsTrue (is_move model lists (Exchange v a w b))
       numbers v a w b hv ha low hw true same behind hb = Prim.grind arith
       numbers v a w b hv ha low hw false other behind hb = Prim.grind arith
 
@@ -150,7 +159,8 @@ module _ (model : Model) (lists : List (List ℕ)) where
       let hw : w < length lists = Prim.grind arith in
       let hb : b < length (route lists w) = Prim.grind arith in
       to_each _ (vehicles lists) v _ (to_below _ _ hv) (to_each _ (places (route lists v)) a _ (to_below _ _ ha)
-      (to_each _ (from_to v (length lists)) w _ (to_from_to _ _ _ low hw) (to_map (Exchange v a w) (places_behind lists v a w) b (to_from_to _ _ _ (behind (v == w) refl) hb))))
+      (to_each _ (from_to v (length lists)) w _ (to_from_to _ _ _ low hw)
+      (to_map (Exchange v a w) (places_behind lists v a w) b (to_from_to _ _ _ (behind (v == w) refl) hb))))
     where
       behind : (c : Bool) → (v == w) ≡ c → cond c (suc a) 0 ≤ b
       behind true same = Prim.grind arith
@@ -171,8 +181,11 @@ module _ (model : Model) (lists : List (List ℕ)) where
       let b_there = of_filter (has_some_front a) (gaps (route lists w)) b hb in
       moved mv (Cross v a w b) e (numbers v a w b (of_below _ a ha) w_there.0 w_there.1 (of_below _ b b_there.0) b_there.1)
     where
-      numbers : (v a w b : ℕ) → a < suc (length (route lists v)) → suc v ≤ w → w < length lists → b < suc (length (route lists w)) → IsTrue (has_some_front a b) → IsTrue (is_move model lists (Cross v a w b))
-      numbers v a w b ha low hw hb some = and_both (nat_lt w (length lists)) _ (Prim.grind arith) (and_both (nat_lt v w) _ (Prim.grind arith) (and_both (nat_le a (length (route lists v))) _ (Prim.grind arith) (and_both (nat_le b (length (route lists w))) _ (Prim.grind arith) some)))
+      numbers : (v a w b : ℕ) → a < suc (length (route lists v)) → suc v ≤ w → w < length lists
+          → b < suc (length (route lists w)) → IsTrue (has_some_front a b) → IsTrue (is_move model lists (Cross v a w b))
+      numbers v a w b ha low hw hb some = and_both (nat_lt w (length lists)) _ (Prim.grind arith)
+          (and_both (nat_lt v w) _ (Prim.grind arith)
+          (and_both (nat_le a (length (route lists v))) _ (Prim.grind arith) (and_both (nat_le b (length (route lists w))) _ (Prim.grind arith) some)))
 
   one_cross : (v a w b : ℕ) → IsOne all.Cross (Cross v a w b)
   one_cross v a w b h =
@@ -180,9 +193,13 @@ module _ (model : Model) (lists : List (List ℕ)) where
       let low : suc v ≤ w = Prim.grind arith in
       let ha : a < suc (length (route lists v)) = Prim.grind arith in
       let hb : b < suc (length (route lists w)) = Prim.grind arith in
-      let some = and_right (nat_le b (length (route lists w))) _ (and_right (nat_le a (length (route lists v))) _ (and_right (nat_lt v w) _ (and_right (nat_lt w (length lists)) _ h))) in
-      to_each _ (vehicles lists) v _ (to_below _ _ (omega (arith, low, hw))) (to_each (crosses_from v) (gaps (route lists v)) a (Cross v a w b) (to_below _ _ ha)
-      (to_each (crosses v a) (from_to (suc v) (length lists)) w (Cross v a w b) (to_from_to _ _ _ low hw) (to_map (Cross v a w) (filter (has_some_front a) (gaps (route lists w))) b (to_filter (has_some_front a) (gaps (route lists w)) b (to_below _ _ hb) some))))
+      let some = and_right (nat_le b (length (route lists w))) _
+      (and_right (nat_le a (length (route lists v))) _ (and_right (nat_lt v w) _ (and_right (nat_lt w (length lists)) _ h))) in
+      to_each _ (vehicles lists) v _ (to_below _ _ (omega (arith, low, hw)))
+      (to_each (crosses_from v) (gaps (route lists v)) a (Cross v a w b) (to_below _ _ ha)
+      (to_each (crosses v a) (from_to (suc v) (length lists)) w (Cross v a w b) (to_from_to _ _ _ low hw)
+      (to_map (Cross v a w) (filter (has_some_front a) (gaps (route lists w))) b
+      (to_filter (has_some_front a) (gaps (route lists w)) b (to_below _ _ hb) some))))
 
   -- ---- pairs
 
@@ -204,18 +221,23 @@ module _ (model : Model) (lists : List (List ℕ)) where
       let t_there = of_filter (changes p w s) (from_to s (suc (length (rest p w)))) t ht in
       let range = of_from_to s (suc (length (rest p w))) t t_there.0 in
       moved mv (RelocatePair p w s t) e (and_both (is_pair_served model lists p) _ p_there.1
-      (and_both (may_put_pair model lists p w (length (rest p w)) s t) (changes p w s t) (pair_test p w (length (rest p w)) s t (of_below _ p p_there.0) (of_below _ w hw) range.0 range.1) t_there.1))
+      (and_both (may_put_pair model lists p w (length (rest p w)) s t) (changes p w s t)
+      (pair_test p w (length (rest p w)) s t (of_below _ p p_there.0) (of_below _ w hw) range.0 range.1) t_there.1))
 
   one_relocate_pair : (p w s t : ℕ) → IsOne all.RelocatePair (RelocatePair p w s t)
   one_relocate_pair p w s t h =
-      let numbers = pair_numbers p w (length (rest p w)) s t (and_left (may_put_pair model lists p w (length (rest p w)) s t) _ (and_right (is_pair_served model lists p) _ h)) in
+      let numbers = pair_numbers p w (length (rest p w)) s t
+      (and_left (may_put_pair model lists p w (length (rest p w)) s t) _ (and_right (is_pair_served model lists p) _ h)) in
       let served = and_left (is_pair_served model lists p) _ h in
       let other = and_right (may_put_pair model lists p w (length (rest p w)) s t) (changes p w s t) (and_right (is_pair_served model lists p) _ h) in
       let low = numbers.2 in let high = numbers.3 in
       let there : s < suc (length (rest p w)) = omega (arith, low, high) in
-      to_each relocations_of (filter (is_pair_served model lists) (pairs model)) p (RelocatePair p w s t) (to_filter (is_pair_served model lists) (pairs model) p (to_below _ _ numbers.0) served)
-      (to_each (relocations_to p) (vehicles lists) w (RelocatePair p w s t) (to_below _ _ numbers.1) (to_each (relocations_at p w) (gaps (rest p w)) s (RelocatePair p w s t) (to_below _ _ there)
-      (to_map (RelocatePair p w s) (filter (changes p w s) (from_to s (suc (length (rest p w))))) t (to_filter (changes p w s) (from_to s (suc (length (rest p w)))) t (to_from_to _ _ _ low high) other))))
+      to_each relocations_of (filter (is_pair_served model lists) (pairs model)) p (RelocatePair p w s t)
+      (to_filter (is_pair_served model lists) (pairs model) p (to_below _ _ numbers.0) served)
+      (to_each (relocations_to p) (vehicles lists) w (RelocatePair p w s t) (to_below _ _ numbers.1)
+      (to_each (relocations_at p w) (gaps (rest p w)) s (RelocatePair p w s t) (to_below _ _ there)
+      (to_map (RelocatePair p w s) (filter (changes p w s) (from_to s (suc (length (rest p w))))) t
+      (to_filter (changes p w s) (from_to s (suc (length (rest p w)))) t (to_from_to _ _ _ low high) other))))
 
   abbrev insertions_at : ℕ → ℕ → ℕ → List Move
   insertions_at p w s = map (PairActive p w s) (from_to s (suc (length (route lists w))))
@@ -233,7 +255,9 @@ module _ (model : Model) (lists : List (List ℕ)) where
       from_map (PairActive p w s) (from_to s (suc (length (route lists w)))) mv h4 λ t ht e.
       let p_there = of_filter (is_pair_inactive model lists) (pairs model) p hp in
       let range = of_from_to s (suc (length (route lists w))) t ht in
-      moved mv (PairActive p w s t) e (and_both (is_pair_inactive model lists p) _ p_there.1 (pair_test p w (length (route lists w)) s t (of_below _ p p_there.0) (of_below _ w hw) range.0 range.1))
+      moved mv (PairActive p w s t) e
+      (and_both (is_pair_inactive model lists p) _ p_there.1
+      (pair_test p w (length (route lists w)) s t (of_below _ p p_there.0) (of_below _ w hw) range.0 range.1))
 
   one_pair_active : (p w s t : ℕ) → IsOne all.PairActive (PairActive p w s t)
   one_pair_active p w s t h =
@@ -241,8 +265,10 @@ module _ (model : Model) (lists : List (List ℕ)) where
       let absent = and_left (is_pair_inactive model lists p) _ h in
       let low = numbers.2 in let high = numbers.3 in
       let there : s < suc (length (route lists w)) = omega (arith, low, high) in
-      to_each insertions_of (filter (is_pair_inactive model lists) (pairs model)) p (PairActive p w s t) (to_filter (is_pair_inactive model lists) (pairs model) p (to_below _ _ numbers.0) absent)
-      (to_each (insertions_to p) (vehicles lists) w (PairActive p w s t) (to_below _ _ numbers.1) (to_each (insertions_at p w) (gaps (route lists w)) s (PairActive p w s t) (to_below _ _ there)
+      to_each insertions_of (filter (is_pair_inactive model lists) (pairs model)) p (PairActive p w s t)
+      (to_filter (is_pair_inactive model lists) (pairs model) p (to_below _ _ numbers.0) absent)
+      (to_each (insertions_to p) (vehicles lists) w (PairActive p w s t) (to_below _ _ numbers.1)
+      (to_each (insertions_at p w) (gaps (route lists w)) s (PairActive p w s t) (to_below _ _ there)
       (to_map (PairActive p w s) (from_to s (suc (length (route lists w)))) t (to_from_to _ _ _ low high))))
 
   passes_pair_inactive : Passes all.PairInactive
@@ -252,7 +278,8 @@ module _ (model : Model) (lists : List (List ℕ)) where
 
   one_pair_inactive : (p : ℕ) → IsOne all.PairInactive (PairInactive p)
   one_pair_inactive p h = to_map PairInactive (filter (is_pair_together model lists) (pairs model)) p
-      (to_filter (is_pair_together model lists) (pairs model) p (to_below _ _ (lt_of_test p (length model.pairs) (and_left (nat_lt p (length model.pairs)) _ h))) (and_right (nat_lt p (length model.pairs)) _ h))
+      (to_filter (is_pair_together model lists) (pairs model) p
+      (to_below _ _ (lt_of_test p (length model.pairs) (and_left (nat_lt p (length model.pairs)) _ h))) (and_right (nat_lt p (length model.pairs)) _ h))
 
   -- ---- one node made active or inactive
 
@@ -265,7 +292,9 @@ module _ (model : Model) (lists : List (List ℕ)) where
   to_inactive : (u : ℕ) → IsTrue (is_inactive model lists u) → In (inactive model lists) u
   to_inactive u h =
       let visit = and_left (is_visit model u) _ h in
-      to_filter (λ node. not (is_active lists node)) (visits model) u (to_filter (is_visit model) (below model.nodes) u (to_below _ _ (lt_of_test u model.nodes (and_left (nat_lt u model.nodes) _ visit))) visit) (and_right (is_visit model u) _ h)
+      to_filter (λ node. not (is_active lists node)) (visits model) u
+      (to_filter (is_visit model) (below model.nodes) u (to_below _ _ (lt_of_test u model.nodes (and_left (nat_lt u model.nodes) _ visit))) visit)
+      (and_right (is_visit model u) _ h)
 
   abbrev activations_to : ℕ → ℕ → List Move
   activations_to u w = map (MakeActive u w) (gaps (route lists w))
@@ -285,7 +314,9 @@ module _ (model : Model) (lists : List (List ℕ)) where
   one_make_active : (u w t : ℕ) → IsOne all.MakeActive (MakeActive u w t)
   one_make_active u w t h =
       let numbers = and_right (is_inactive model lists u) _ h in
-      to_each activations_of (inactive model lists) u (MakeActive u w t) (to_inactive u (and_left (is_inactive model lists u) _ h)) (to_each (activations_to u) (vehicles lists) w (MakeActive u w t) (to_below _ _ (lt_of_test w (length lists) (and_left (is_vehicle lists w) _ numbers)))
+      to_each activations_of (inactive model lists) u (MakeActive u w t) (to_inactive u (and_left (is_inactive model lists u) _ h))
+      (to_each (activations_to u) (vehicles lists) w (MakeActive u w t)
+      (to_below _ _ (lt_of_test w (length lists) (and_left (is_vehicle lists w) _ numbers)))
       (to_map (MakeActive u w) (gaps (route lists w)) t (to_below _ _ (gap t (length (route lists w)) (and_right (is_vehicle lists w) _ numbers)))))
     where
       gap : (t n : ℕ) → IsTrue (nat_le t n) → t < suc n
@@ -304,7 +335,9 @@ module _ (model : Model) (lists : List (List ℕ)) where
   passes_swap_active mv h =
       from_each _ (vehicles lists) mv h λ v hv h2. from_each _ (places (route lists v)) mv h2 λ a ha h3.
       from_map (SwapActive v a) (inactive model lists) mv h3 λ u hu e.
-      moved mv (SwapActive v a u) e (and_both (is_vehicle lists v) _ (test_of_lt _ _ (of_below _ v hv)) (and_both (is_place lists v a) _ (test_of_lt _ _ (of_below _ a ha)) (of_inactive u hu)))
+      moved mv (SwapActive v a u) e
+      (and_both (is_vehicle lists v) _ (test_of_lt _ _ (of_below _ v hv))
+      (and_both (is_place lists v a) _ (test_of_lt _ _ (of_below _ a ha)) (of_inactive u hu)))
 
   one_swap_active : (v a u : ℕ) → IsOne all.SwapActive (SwapActive v a u)
   one_swap_active v a u h =

@@ -1,5 +1,6 @@
 -- How often a number stands in a list, and in lists.
-use Rattle.std.proofs.Common.{◌⊎◌, ◌≡◌, ◌∙◌, ℕ, zero, suc, ◌+◌, ◌<◌, ◌≤◌, Bool, false, not, cond, List, [], ◌∷◌, ◌++◌, length, reverse, take, drop, refl, sym, ap, subst, inl, inr, arith}
+use Rattle.std.proofs.Common.{◌⊎◌, ◌≡◌, ◌∙◌, ℕ, zero, suc, ◌+◌, ◌<◌, ◌≤◌, Bool, false, not, cond, List, [], ◌∷◌, ◌++◌, length, reverse, take, drop, refl, sym}
+use Rattle.std.proofs.Common.{ap, subst, inl, inr, arith}
 use Rattle.std.specs.Prelude.{IsTrue, ◌==◌, slice_index, slice_set}
 use Rattle.std.specs.List.{list_all, concat}
 use Rattle.std.proofs.lemmas.Bool.{cases_lt}
@@ -39,7 +40,8 @@ times_reverse x (y ∷ ys) =
     let e : times x (reverse (y ∷ ys)) ≡ times x (reverse ys ++ y ∷ []) = ap (times x) (reverse-append (y ∷ []) ys) in
     omega (arith, r, a, e)
 
-pub times_set : (x : ℕ) (lists : List (List ℕ)) (v : ℕ) (list : List ℕ) → v < length lists → times_in x (slice_set lists v list) + times x (route lists v) ≡ times_in x lists + times x list
+pub times_set : (x : ℕ) (lists : List (List ℕ)) (v : ℕ) (list : List ℕ) → v < length lists
+    → times_in x (slice_set lists v list) + times x (route lists v) ≡ times_in x lists + times x list
 times_set x [] v list low = absurd (omega (arith, low))
 times_set x (l ∷ ls) zero list low = omega arith
 times_set x (l ∷ ls) (suc v) list low = let r = times_set x ls v list (omega (arith, low)) in omega (arith, r)
@@ -61,8 +63,11 @@ one_place x (y ∷ ys) h = elim (here_or_later x y) [
 pub two_places : (x : ℕ) (xs : List ℕ) → 2 ≤ times x xs → (j : ℕ) × (k : ℕ) × (j < k) × (k < length xs) × (slice_index xs j ≡ x) × (slice_index xs k ≡ x)
 two_places x [] h = absurd (omega (arith, h))
 two_places x (y ∷ ys) h = elim (here_or_later x y) [
-  | inl here ↦ (let e = here.1 in let r = one_place x ys (omega (arith, h, e)) in (0, suc r.0, omega arith, (let low = r.1 in omega (arith, low)), sym here.0, r.2))
-  | inr later ↦ (let r = two_places x ys (omega (arith, h, later)) in (suc r.0, suc r.1, (let low = r.2 in omega (arith, low)), (let low = r.3 in omega (arith, low)), r.4, r.5))
+  | inl here ↦ (let e = here.1 in
+      let r = one_place x ys (omega (arith, h, e)) in
+      (0, suc r.0, omega arith, (let low = r.1 in omega (arith, low)), sym here.0, r.2))
+  | inr later ↦ (let r = two_places x ys (omega (arith, h, later)) in
+      (suc r.0, suc r.1, (let low = r.2 in omega (arith, low)), (let low = r.3 in omega (arith, low)), r.4, r.5))
 ]
 
 pub at_least_one : (x : ℕ) (xs : List ℕ) (k : ℕ) → k < length xs → slice_index xs k ≡ x → 1 ≤ times x xs
@@ -112,7 +117,8 @@ times_of_distinct (y ∷ ys) h x =
     let rest = times_of_distinct ys (and_right (not (holds ys y)) _ h) x in
     elim (here_or_later x y) [
       | inl same ↦ elim (cases_lt 0 (times x ys)) [
-        | inl some ↦ absurd (clash (holds ys y) (subst (λ z. IsTrue (holds ys z)) same.0 (times_held x ys some)) (fails_not (holds ys y) (and_left (not (holds ys y)) _ h)))
+        | inl some ↦ absurd
+            (clash (holds ys y) (subst (λ z. IsTrue (holds ys z)) same.0 (times_held x ys some)) (fails_not (holds ys y) (and_left (not (holds ys y)) _ h)))
         | inr free ↦ (let one = same.1 in omega (arith, one, free))
       ]
       | inr other ↦ omega (arith, rest, other)
@@ -128,7 +134,8 @@ all_held p (y ∷ ys) h x held = elim (or_cases (x == y) _ held) [
 
 pub all_of_held : (p : ℕ → Bool) (xs : List ℕ) → ((x : ℕ) → IsTrue (holds xs x) → IsTrue (p x)) → IsTrue (list_all p xs)
 all_of_held p [] each = refl
-all_of_held p (y ∷ ys) each = and_both (p y) _ (each y (or_left (y == y) _ (test_of_eq y y refl))) (all_of_held p ys (λ x held. each x (or_right (x == y) _ held)))
+all_of_held p (y ∷ ys) each =
+    and_both (p y) _ (each y (or_left (y == y) _ (test_of_eq y y refl))) (all_of_held p ys (λ x held. each x (or_right (x == y) _ held)))
 
 -- a list that stands among others
 pub times_route : (x : ℕ) (lists : List (List ℕ)) (v : ℕ) → times x (route lists v) ≤ times_in x lists

@@ -1,5 +1,6 @@
 -- Sums and products of numbers that lie in 0..=n.
-use Rattle.std.proofs.Common.{◌≡◌, ℕ, zero, suc, ◌+◌, ◌*◌, ◌<◌, ◌≤◌, ◌⊎◌, Bool, true, false, cond, List, [], ◌∷◌, length, refl, sym, ◌∙◌, ap, subst, inl, inr, arith}
+use Rattle.std.proofs.Common.{◌≡◌, ℕ, zero, suc, ◌+◌, ◌*◌, ◌<◌, ◌≤◌, ◌⊎◌, Bool, true, false, cond, List, [], ◌∷◌, length, refl, sym, ◌∙◌, ap, subst, inl, inr}
+use Rattle.std.proofs.Common.{arith}
 use Rattle.std.specs.Prelude.{ℤ, pos, negsuc, ◌*ℤ◌, ◌≤ℤ◌, All, fold}
 use Rattle.std.specs.Int.{int_max, int_min}
 use Rattle.std.specs.List.{concat}
@@ -62,7 +63,8 @@ counts-lists [] whole a h = refl
 counts-lists (list ∷ lists) whole a h =
     let e : a + 0 ≡ a = omega arith in
     let here = ap (λ k. length (route whole k)) (sym e) ∙ ap length (h 0 (omega arith)) in
-    let later = counts-lists lists whole (a + 1) (λ i low. (let f : (a + 1) + i ≡ a + suc i = omega arith in ap (route whole) f) ∙ h (suc i) (omega (arith, low))) in
+    let later = counts-lists lists whole (a + 1)
+    (λ i low. (let f : (a + 1) + i ≡ a + suc i = omega arith in ap (route whole) f) ∙ h (suc i) (omega (arith, low))) in
     let all = length-append list (concat lists) in
     omega (arith, here, later, all)
 
@@ -74,7 +76,8 @@ lists-up_to lists f e c h =
     let t = counts-times (λ v. length (route lists v) + e) c 0 (length lists) in
     let p = counts-plus (λ v. length (route lists v)) e 0 (length lists) in
     let l = counts-lists lists lists 0 (λ i low. (let z : 0 + i ≡ i = omega arith in ap (route lists) z)) in
-    let whole : counts (λ v. (length (route lists v) + e) * c) 0 (length lists) ≡ (length (concat lists) + length lists * e) * c = t ∙ ap (λ n. n * c) (p ∙ ap (λ n. n + length lists * e) l) in
+    let whole : counts (λ v. (length (route lists v) + e) * c) 0 (length lists) ≡ (length (concat lists) + length lists * e) * c = t
+    ∙ ap (λ n. n * c) (p ∙ ap (λ n. n + length lists * e) l) in
     subst (λ n. IsUpTo n (sum_range f 0 (length lists))) whole s
 
 -- a sum over a range of which each number gives at most c

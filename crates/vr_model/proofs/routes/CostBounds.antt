@@ -1,5 +1,6 @@
 -- The bounds of the parts of the cost of valid lists.
-use Rattle.std.proofs.Common.{◌≡◌, ℕ, zero, suc, ◌+◌, ◌*◌, ◌<◌, ◌≤◌, ◌⊎◌, Bool, true, false, cond, not, List, [], ◌∷◌, ◌++◌, length, map, Option, Some, None, refl, sym, ap, subst, inl, inr, arith}
+use Rattle.std.proofs.Common.{◌≡◌, ℕ, zero, suc, ◌+◌, ◌*◌, ◌<◌, ◌≤◌, ◌⊎◌, Bool, true, false, cond, not, List, [], ◌∷◌, ◌++◌, length, map, Option, Some, None}
+use Rattle.std.proofs.Common.{refl, sym, ap, subst, inl, inr, arith}
 use Rattle.std.specs.Prelude.{ℤ, pos, ◌-ℤ◌, ◌*ℤ◌, ◌≤ℤ◌, ◌||◌, ◌==◌, IsTrue, All, slice_index_or}
 use Rattle.std.specs.Int.{int_max}
 use Rattle.std.specs.List.{concat, list_all, list_any, zip}
@@ -13,7 +14,8 @@ use Rattle.vr_model.specs.tables.ModelRules.{has_breaks, has_span_costs}
 use Rattle.vr_model.specs.tables.WellFormed.{IsSoft, IsStopRow, IsGroup, IsDimension, IsWellFormed, WherePresent}
 use Rattle.vr_model.specs.routes.Routes.{route, is_empty, is_distinct, are_lists, vehicles, used_vehicles, arcs_from, cost_of_arc, route_cost}
 use Rattle.vr_model.specs.routes.Rules.{fits_group, active_in, is_open, is_route_open, is_valid}
-use Rattle.vr_model.specs.routes.Costs.{assigned, plan_at, start_at, end_at, greatest, least, arcs_part, fixed_part, global_span, global_part, penalty_for, penalty_part, soft_cost, row_cost, over_plans, soft_costs, soft_part, span_part}
+use Rattle.vr_model.specs.routes.Costs.{assigned, plan_at, start_at, end_at, greatest, least, arcs_part, fixed_part, global_span, global_part, penalty_for}
+use Rattle.vr_model.specs.routes.Costs.{penalty_part, soft_cost, row_cost, over_plans, soft_costs, soft_part, span_part}
 use Rattle.vr_model.specs.schedules.Lines.{line, stop_rows}
 use Rattle.vr_model.specs.schedules.Schedules.{IsSchedule, cumul}
 use Rattle.vr_model.specs.deciding.Testing.{and_left, and_right, or_left, or_right, within_is, eq_of_tests}
@@ -28,7 +30,8 @@ use Rattle.vr_model.proofs.tables.Bounds.{arc_cost_in_range}
 use Rattle.vr_model.proofs.schedules.LinesSound.{found_is, arcs_long, line_sound, line_forward}
 use Rattle.vr_model.proofs.routes.Lists.{are-lists, are_lists-count, route-below, route-visits, route-distinct, visits-few}
 use Rattle.vr_model.proofs.routes.Assigned.{open_meets_its_lines}
-use Rattle.vr_model.proofs.routes.Bounded.{IsUpTo, up_to-more, up_to-zero, up_to-cond, lists-up_to, range-up_to, total-up_to, product-up_to, fold-max_least, fold-max_most, fold-min_most, fold-min_least}
+use Rattle.vr_model.proofs.routes.Bounded.{IsUpTo, up_to-more, up_to-zero, up_to-cond, lists-up_to, range-up_to, total-up_to, product-up_to, fold-max_least}
+use Rattle.vr_model.proofs.routes.Bounded.{fold-max_most, fold-min_most, fold-min_least}
 
 all-push : {A : Type 0} (P : A → Type 0) (xs : List A) (x : A) → All P xs → P x → All P (xs ++ x ∷ [])
 all-push P [] x each last zero d low = last
@@ -97,32 +100,39 @@ module _ (model : Model) (well : IsWellFormed model) (lists : List (List ℕ)) (
       let later = path-up_to v next rest known next_low (λ k d l. each (suc k) d (omega (arith, l))) in
       record { at_least = omega (arith, ints, here.at_least, later.at_least); at_most = omega (arith, ints, here.at_most, later.at_most) }
 
-  route-up_to : (v : ℕ) (list : List ℕ) → v < length model.vehicles → All (λ x. x < model.nodes) list → IsUpTo ((length list + 1) * 1099511627776) (route_cost model v list)
+  route-up_to : (v : ℕ) (list : List ℕ) → v < length model.vehicles → All (λ x. x < model.nodes) list
+      → IsUpTo ((length list + 1) * 1099511627776) (route_cost model v list)
   route-up_to v [] known each = up_to-zero _
   route-up_to v (x ∷ xs) known each =
       let vehicle = well.each_vehicle v no_vehicle known in
       subst (λ n. IsUpTo (n * 1099511627776) (route_cost model v (x ∷ xs))) (length-append (x ∷ xs) ((vehicle_at model v).end ∷ []))
-      (path-up_to v (vehicle_at model v).start ((x ∷ xs) ++ (vehicle_at model v).end ∷ []) known vehicle.start_in_range (all-push (λ node. node < model.nodes) (x ∷ xs) (vehicle_at model v).end each vehicle.end_in_range))
+      (path-up_to v (vehicle_at model v).start ((x ∷ xs) ++ (vehicle_at model v).end ∷ []) known vehicle.start_in_range
+      (all-push (λ node. node < model.nodes) (x ∷ xs) (vehicle_at model v).end each vehicle.end_in_range))
 
   pub arcs-up_to : IsUpTo (1100 * 1099511627776) (arcs_part model lists)
   arcs-up_to = up_to-more (arcs_part model lists)
-      (lists-up_to lists (λ v. route_cost model v (route lists v)) 1 1099511627776 (λ v low. route-up_to v (route lists v) (vehicle_of v low) (route-below model lists v are)))
+      (lists-up_to lists (λ v. route_cost model v (route lists v)) 1 1099511627776
+      (λ v low. route-up_to v (route lists v) (vehicle_of v low) (route-below model lists v are)))
       (let a = few in let b = fleet in omega (arith, a, b))
 
   -- ---- fixed costs
 
   pub fixed-up_to : IsUpTo (100 * 1099511627776) (fixed_part model lists)
-  fixed-up_to = subst (IsUpTo (100 * 1099511627776)) (sym (total_by-failing (λ v. (vehicle_at model v).fixed) (λ v. is_empty (route lists v)) (below (length lists))))
+  fixed-up_to =
+      subst (IsUpTo (100 * 1099511627776)) (sym (total_by-failing (λ v. (vehicle_at model v).fixed) (λ v. is_empty (route lists v)) (below (length lists))))
       (up_to-more _ (range-up_to (λ v. cond (is_empty (route lists v)) (pos 0) (vehicle_at model v).fixed) 1099511627776 (length lists)
-      (λ v low. up_to-cond 1099511627776 (is_empty (route lists v)) (vehicle_at model v).fixed (λ used. (well.each_vehicle v no_vehicle (vehicle_of v low)).fixed_in_range)))
+      (λ v low. up_to-cond 1099511627776 (is_empty (route lists v)) (vehicle_at model v).fixed
+      (λ used. (well.each_vehicle v no_vehicle (vehicle_of v low)).fixed_in_range)))
       (let b = fleet in omega (arith, b)))
 
   -- ---- penalties
 
-  penalty-up_to : (group : Group) → IsGroup model group → IsTrue (fits_group lists group) → IsUpTo (1099511627776 * 1000) (penalty_for group.penalty group.max (active_in lists group))
+  penalty-up_to : (group : Group) → IsGroup model group → IsTrue (fits_group lists group)
+      → IsUpTo (1099511627776 * 1000) (penalty_for group.penalty group.max (active_in lists group))
   penalty-up_to group is fits = go group.penalty is.penalty_in_range
     where
-      go : (penalty : Option ℤ) → WherePresent (IsUpTo 1099511627776) penalty → IsUpTo (1099511627776 * 1000) (penalty_for penalty group.max (active_in lists group))
+      go : (penalty : Option ℤ) → WherePresent (IsUpTo 1099511627776) penalty
+          → IsUpTo (1099511627776 * 1000) (penalty_for penalty group.max (active_in lists group))
       go None h = up_to-zero _
       go (Some p) h =
           let f = nat_of_test (active_in lists group) group.max fits in
@@ -138,7 +148,8 @@ module _ (model : Model) (well : IsWellFormed model) (lists : List (List ℕ)) (
   penalties-up_to =
       let each = all-from_list_all (fits_group lists) model.groups fitting in
       let n = well.number_of_groups in
-      up_to-more (penalty_part model lists) (total-up_to (λ group. penalty_for group.penalty group.max (active_in lists group)) (1099511627776 * 1000) model.groups
+      up_to-more (penalty_part model lists)
+      (total-up_to (λ group. penalty_for group.penalty group.max (active_in lists group)) (1099511627776 * 1000) model.groups
       (λ k d low. penalty-up_to (slice_index_or model.groups k d) (well.each_group k d low) (each k d low))) (omega (arith, n))
 
   -- ---- plans
@@ -169,12 +180,14 @@ module _ (model : Model) (well : IsWellFormed model) (lists : List (List ℕ)) (
     cumul-up_to : (k : ℕ) → k < length (route lists v) + 2 → IsUpTo 68719476736 (cumul (plan_at (assigned model lists) d v) k)
     cumul-up_to k low =
         let s = stops in let c = meets.cumul_of_each_stop in
-        let h = within_is (pos 0) horizon (cumul (plan_at (assigned model lists) d v) k) (and_left (within (pos 0) horizon (cumul (plan_at (assigned model lists) d v) k)) _ (meets.cumuls_allowed k (omega (arith, low, s, c)))) in
+        let h = within_is (pos 0) horizon (cumul (plan_at (assigned model lists) d v) k)
+        (and_left (within (pos 0) horizon (cumul (plan_at (assigned model lists) d v) k)) _ (meets.cumuls_allowed k (omega (arith, low, s, c)))) in
         record { at_least = h.0; at_most = h.1 }
 
     -- what the stops cost by their soft bounds
     pub softs-up_to : IsUpTo ((length (route lists v) + 2) * (10000 * 68719476736)) (soft_costs model (assigned model lists) d v)
-    softs-up_to = subst (λ n. IsUpTo (n * (10000 * 68719476736)) (soft_costs model (assigned model lists) d v)) rows_many (zip-up_to (stop_rows (dimension_at model d) v (route lists v)) (plan_at (assigned model lists) d v).cumuls rows high)
+    softs-up_to = subst (λ n. IsUpTo (n * (10000 * 68719476736)) (soft_costs model (assigned model lists) d v)) rows_many
+        (zip-up_to (stop_rows (dimension_at model d) v (route lists v)) (plan_at (assigned model lists) d v).cumuls rows high)
       where
         rows_many : length (stop_rows (dimension_at model d) v (route lists v)) ≡ length (route lists v) + 2
         rows_many =
@@ -183,8 +196,10 @@ module _ (model : Model) (well : IsWellFormed model) (lists : List (List ℕ)) (
             omega (arith, m, a)
 
         rows : All (WherePresent IsStopRow) (stop_rows (dimension_at model d) v (route lists v))
-        rows = all-cons (WherePresent IsStopRow) _ _ (found_is IsStopRow (λ row. row.key == v) (dimension_at model d).starts of_dimension.rows_of_starts.each_row)
-            (all-push (WherePresent IsStopRow) (map (row_of (dimension_at model d).nodes) (route lists v)) _ (each (route lists v)) (found_is IsStopRow (λ row. row.key == v) (dimension_at model d).ends of_dimension.rows_of_ends.each_row))
+        rows =
+            all-cons (WherePresent IsStopRow) _ _ (found_is IsStopRow (λ row. row.key == v) (dimension_at model d).starts of_dimension.rows_of_starts.each_row)
+            (all-push (WherePresent IsStopRow) (map (row_of (dimension_at model d).nodes) (route lists v)) _ (each (route lists v))
+            (found_is IsStopRow (λ row. row.key == v) (dimension_at model d).ends of_dimension.rows_of_ends.each_row))
           where
             each : (xs : List ℕ) → All (WherePresent IsStopRow) (map (row_of (dimension_at model d).nodes) xs)
             each [] k e low = absurd (omega (arith, low))
@@ -192,10 +207,12 @@ module _ (model : Model) (well : IsWellFormed model) (lists : List (List ℕ)) (
             each (x ∷ xs) (suc k) e low = each xs k e (omega (arith, low))
 
         high : All (λ x. x ≤ℤ horizon) (plan_at (assigned model lists) d v).cumuls
-        high k e low = subst (λ x. x ≤ℤ horizon) (get_or_default (plan_at (assigned model lists) d v).cumuls k (pos 0) e low) (cumul-up_to k (let s = stops in omega (arith, low, s))).at_most
+        high k e low = subst (λ x. x ≤ℤ horizon) (get_or_default (plan_at (assigned model lists) d v).cumuls k (pos 0) e low)
+            (cumul-up_to k (let s = stops in omega (arith, low, s))).at_most
 
     -- where transits do not go back cumuls do not fall
-    rising : ((has_breaks (dimension_at model d) || has_span_costs (dimension_at model d)) ≡ true) → (k : ℕ) → k ≤ length (route lists v) + 1 → cumul (plan_at (assigned model lists) d v) 0 ≤ℤ cumul (plan_at (assigned model lists) d v) k
+    rising : ((has_breaks (dimension_at model d) || has_span_costs (dimension_at model d)) ≡ true) → (k : ℕ)
+        → k ≤ length (route lists v) + 1 → cumul (plan_at (assigned model lists) d v) 0 ≤ℤ cumul (plan_at (assigned model lists) d v) k
     rising asked zero low = omega (arith, ints)
     rising asked (suc k) low =
         let before = rising asked k (omega (arith, low)) in
@@ -208,7 +225,8 @@ module _ (model : Model) (well : IsWellFormed model) (lists : List (List ℕ)) (
         omega (arith, ints, before, slack, s, forward)
 
     -- from the start to the end, where that costs something
-    pub span-rises : ((has_breaks (dimension_at model d) || has_span_costs (dimension_at model d)) ≡ true) → start_at (assigned model lists) d v ≤ℤ end_at (assigned model lists) d v
+    pub span-rises : ((has_breaks (dimension_at model d) || has_span_costs (dimension_at model d)) ≡ true)
+        → start_at (assigned model lists) d v ≤ℤ end_at (assigned model lists) d v
     span-rises asked = rising asked (suc (length (route lists v))) (omega arith)
 
     pub start-up_to : IsUpTo 68719476736 (start_at (assigned model lists) d v)
@@ -227,29 +245,36 @@ module _ (model : Model) (well : IsWellFormed model) (lists : List (List ℕ)) (
         go : (b : Bool) → is_same_number (number_at (dimension_at model d).span_costs v) (pos 0) ≡ b
             → (number_at (dimension_at model d).span_costs v ≡ pos 0) ⊎ ((has_breaks (dimension_at model d) || has_span_costs (dimension_at model d)) ≡ true)
         go true e = inl (eq_of_tests (number_at (dimension_at model d).span_costs v) (pos 0) e)
-        go false e = inr (or_right (has_breaks (dimension_at model d)) _ (or_left (list_any (λ coefficient. not (is_same_number coefficient (pos 0))) (dimension_at model d).span_costs) _
+        go false e = inr (or_right (has_breaks (dimension_at model d)) _
+            (or_left (list_any (λ coefficient. not (is_same_number coefficient (pos 0))) (dimension_at model d).span_costs) _
             (list_any_at (λ coefficient. not (is_same_number coefficient (pos 0))) (dimension_at model d).span_costs v (pos 0) known_there (ap not e))))
 
-    pub span-up_to : IsUpTo (10000 * 68719476736) (number_at (dimension_at model d).span_costs v *ℤ (end_at (assigned model lists) d v -ℤ start_at (assigned model lists) d v))
+    pub span-up_to : IsUpTo (10000 * 68719476736)
+        (number_at (dimension_at model d).span_costs v *ℤ (end_at (assigned model lists) d v -ℤ start_at (assigned model lists) d v))
     span-up_to =
         let a = start-up_to.at_least in let b = end-up_to.at_most in
-        product-up_to 10000 68719476736 (number_at (dimension_at model d).span_costs v) (end_at (assigned model lists) d v -ℤ start_at (assigned model lists) d v)
+        product-up_to 10000 68719476736 (number_at (dimension_at model d).span_costs v)
+        (end_at (assigned model lists) d v -ℤ start_at (assigned model lists) d v)
         (of_dimension.span_costs_in_range v (pos 0) (let e = of_dimension.span_cost_of_each_vehicle in let k = vehicle_of v known in omega (arith, e, k)))
         (omega (arith, ints, a, b)) (elim span_asked [ inl none ↦ inl none | inr asked ↦ (let r = span-rises asked in inr (omega (arith, ints, r))) ])
 
   -- ---- sums over used vehicles and dimensions
 
-  over-plans : (f : ℕ → ℕ → ℤ) → over_plans model (assigned model lists) f ≡ sum_range (λ v. cond (is_empty (route lists v)) (pos 0) (sum_range (λ d. f d v) 0 (length model.dimensions))) 0 (length lists)
+  over-plans : (f : ℕ → ℕ → ℤ) → over_plans model (assigned model lists) f
+      ≡ sum_range (λ v. cond (is_empty (route lists v)) (pos 0) (sum_range (λ d. f d v) 0 (length model.dimensions))) 0 (length lists)
   over-plans f = total_by-failing (λ v. total_by (λ d. f d v) (below (length model.dimensions))) (λ v. is_empty (route lists v)) (below (length lists))
 
   pub soft_part-up_to : IsUpTo (1200 * (4 * (10000 * 68719476736))) (soft_part model (assigned model lists))
   soft_part-up_to = subst (IsUpTo (1200 * (4 * (10000 * 68719476736)))) (sym (over-plans (soft_costs model (assigned model lists))))
       (up_to-more _ (lists-up_to lists _ 2 (4 * (10000 * 68719476736)) each) (let a = few in let b = fleet in omega (arith, a, b)))
     where
-      each : (v : ℕ) → v < length lists → IsUpTo ((length (route lists v) + 2) * (4 * (10000 * 68719476736))) (cond (is_empty (route lists v)) (pos 0) (sum_range (λ d. soft_costs model (assigned model lists) d v) 0 (length model.dimensions)))
+      each : (v : ℕ) → v < length lists → IsUpTo ((length (route lists v) + 2) * (4 * (10000 * 68719476736)))
+          (cond (is_empty (route lists v)) (pos 0) (sum_range (λ d. soft_costs model (assigned model lists) d v) 0 (length model.dimensions)))
       each v known = up_to-cond _ (is_empty (route lists v)) _ λ used.
           let m = mul-le-mul_right ((length (route lists v) + 2) * (10000 * 68719476736)) well.number_of_dimensions in
-          up_to-more _ (range-up_to (λ d. soft_costs model (assigned model lists) d v) ((length (route lists v) + 2) * (10000 * 68719476736)) (length model.dimensions) (λ d low. softs-up_to d v low known used)) (omega (arith, m))
+          up_to-more _
+          (range-up_to (λ d. soft_costs model (assigned model lists) d v) ((length (route lists v) + 2) * (10000 * 68719476736))
+          (length model.dimensions) (λ d low. softs-up_to d v low known used)) (omega (arith, m))
 
   pub span_part-up_to : IsUpTo (100 * (4 * (10000 * 68719476736))) (span_part model (assigned model lists))
   span_part-up_to = subst (IsUpTo (100 * (4 * (10000 * 68719476736))))
@@ -257,10 +282,13 @@ module _ (model : Model) (well : IsWellFormed model) (lists : List (List ℕ)) (
       (up_to-more _ (range-up_to _ (4 * (10000 * 68719476736)) (length lists) each) (let b = fleet in omega (arith, b)))
     where
       each : (v : ℕ) → v < length lists → IsUpTo (4 * (10000 * 68719476736)) (cond (is_empty (route lists v)) (pos 0)
-          (sum_range (λ d. number_at (dimension_at model d).span_costs v *ℤ (end_at (assigned model lists) d v -ℤ start_at (assigned model lists) d v)) 0 (length model.dimensions)))
+          (sum_range (λ d. number_at (dimension_at model d).span_costs v *ℤ (end_at (assigned model lists) d v -ℤ start_at (assigned model lists) d v))
+          0 (length model.dimensions)))
       each v known = up_to-cond _ (is_empty (route lists v)) _ λ used.
           let n = well.number_of_dimensions in
-          up_to-more _ (range-up_to (λ d. number_at (dimension_at model d).span_costs v *ℤ (end_at (assigned model lists) d v -ℤ start_at (assigned model lists) d v)) (10000 * 68719476736) (length model.dimensions) (λ d low. span-up_to d v low known used)) (omega (arith, n))
+          up_to-more _
+          (range-up_to (λ d. number_at (dimension_at model d).span_costs v *ℤ (end_at (assigned model lists) d v -ℤ start_at (assigned model lists) d v))
+          (10000 * 68719476736) (length model.dimensions) (λ d low. span-up_to d v low known used)) (omega (arith, n))
 
   -- ---- global spans
 
@@ -272,7 +300,8 @@ module _ (model : Model) (well : IsWellFormed model) (lists : List (List ℕ)) (
             → ((dimension_at model d).global_span_cost ≡ pos 0) ⊎ ((has_breaks (dimension_at model d) || has_span_costs (dimension_at model d)) ≡ true)
         go true e = inl (eq_of_tests (dimension_at model d).global_span_cost (pos 0) e)
         go false e = inr (or_right (has_breaks (dimension_at model d)) _
-            (or_right (list_any (λ coefficient. not (is_same_number coefficient (pos 0))) (dimension_at model d).span_costs) (not (is_same_number (dimension_at model d).global_span_cost (pos 0))) (ap not e)))
+            (or_right (list_any (λ coefficient. not (is_same_number coefficient (pos 0))) (dimension_at model d).span_costs)
+            (not (is_same_number (dimension_at model d).global_span_cost (pos 0))) (ap not e)))
 
     -- the ends of used vehicles, and their starts
     spread-high : (used : List ℕ) → ((v : ℕ) → In used v → (v < length lists) × (is_empty (route lists v) ≡ false))
@@ -280,21 +309,26 @@ module _ (model : Model) (well : IsWellFormed model) (lists : List (List ℕ)) (
     spread-high [] each = omega (arith, ints)
     spread-high (v ∷ vs) each =
         let here = each v (inl refl) in
-        let most = fold-max_most 68719476736 (end_at (assigned model lists) d v) (map (end_at (assigned model lists) d) vs) (end-up_to d v dimension here.0 here.1).at_most (ends vs (λ w h. each w (inr h))) in
-        let low = fold-min_least (start_at (assigned model lists) d v) (map (start_at (assigned model lists) d) vs) (start-up_to d v dimension here.0 here.1).at_least (starts vs (λ w h. each w (inr h))) in
+        let most = fold-max_most 68719476736 (end_at (assigned model lists) d v) (map (end_at (assigned model lists) d) vs)
+        (end-up_to d v dimension here.0 here.1).at_most (ends vs (λ w h. each w (inr h))) in
+        let low = fold-min_least (start_at (assigned model lists) d v) (map (start_at (assigned model lists) d) vs)
+        (start-up_to d v dimension here.0 here.1).at_least (starts vs (λ w h. each w (inr h))) in
         omega (arith, ints, most, low)
       where
-        ends : (vs : List ℕ) → ((v : ℕ) → In vs v → (v < length lists) × (is_empty (route lists v) ≡ false)) → All (λ y. y ≤ℤ pos 68719476736) (map (end_at (assigned model lists) d) vs)
+        ends : (vs : List ℕ) → ((v : ℕ) → In vs v → (v < length lists) × (is_empty (route lists v) ≡ false))
+            → All (λ y. y ≤ℤ pos 68719476736) (map (end_at (assigned model lists) d) vs)
         ends [] each k e low = absurd (omega (arith, low))
         ends (v ∷ vs) each zero e low = let h = each v (inl refl) in (end-up_to d v dimension h.0 h.1).at_most
         ends (v ∷ vs) each (suc k) e low = ends vs (λ w h. each w (inr h)) k e (omega (arith, low))
 
-        starts : (vs : List ℕ) → ((v : ℕ) → In vs v → (v < length lists) × (is_empty (route lists v) ≡ false)) → All (λ y. pos 0 ≤ℤ y) (map (start_at (assigned model lists) d) vs)
+        starts : (vs : List ℕ) → ((v : ℕ) → In vs v → (v < length lists) × (is_empty (route lists v) ≡ false))
+            → All (λ y. pos 0 ≤ℤ y) (map (start_at (assigned model lists) d) vs)
         starts [] each k e low = absurd (omega (arith, low))
         starts (v ∷ vs) each zero e low = let h = each v (inl refl) in (start-up_to d v dimension h.0 h.1).at_least
         starts (v ∷ vs) each (suc k) e low = starts vs (λ w h. each w (inr h)) k e (omega (arith, low))
 
-    spread-low : ((has_breaks (dimension_at model d) || has_span_costs (dimension_at model d)) ≡ true) → (used : List ℕ) → ((v : ℕ) → In used v → (v < length lists) × (is_empty (route lists v) ≡ false))
+    spread-low : ((has_breaks (dimension_at model d) || has_span_costs (dimension_at model d)) ≡ true)
+        → (used : List ℕ) → ((v : ℕ) → In used v → (v < length lists) × (is_empty (route lists v) ≡ false))
         → pos 0 ≤ℤ (greatest (map (end_at (assigned model lists) d) used) -ℤ least (map (start_at (assigned model lists) d) used))
     spread-low asked [] each = omega (arith, ints)
     spread-low asked (v ∷ vs) each =
@@ -305,7 +339,9 @@ module _ (model : Model) (well : IsWellFormed model) (lists : List (List ℕ)) (
         omega (arith, ints, rise, high, low)
 
     used_are : (v : ℕ) → In (used_vehicles lists) v → (v < length lists) × (is_empty (route lists v) ≡ false)
-    used_are v h = let r = of_filter (λ v. not (is_empty (route lists v))) (below (length lists)) v h in (of_below (length lists) v r.0, fails_not (is_empty (route lists v)) r.1)
+    used_are v h =
+        let r = of_filter (λ v. not (is_empty (route lists v))) (below (length lists)) v h in
+        (of_below (length lists) v r.0, fails_not (is_empty (route lists v)) r.1)
 
     global-up_to : IsUpTo (10000 * 68719476736) ((dimension_at model d).global_span_cost *ℤ global_span (assigned model lists) d)
     global-up_to = product-up_to 10000 68719476736 (dimension_at model d).global_span_cost (global_span (assigned model lists) d)
@@ -314,4 +350,6 @@ module _ (model : Model) (well : IsWellFormed model) (lists : List (List ℕ)) (
 
   pub global_part-up_to : IsUpTo (4 * (10000 * 68719476736)) (global_part model (assigned model lists))
   global_part-up_to = let n = well.number_of_dimensions in
-      up_to-more (global_part model (assigned model lists)) (range-up_to (λ d. (dimension_at model d).global_span_cost *ℤ global_span (assigned model lists) d) (10000 * 68719476736) (length model.dimensions) global-up_to) (omega (arith, n))
+      up_to-more (global_part model (assigned model lists))
+      (range-up_to (λ d. (dimension_at model d).global_span_cost *ℤ global_span (assigned model lists) d)
+      (10000 * 68719476736) (length model.dimensions) global-up_to) (omega (arith, n))

@@ -10,7 +10,8 @@ use Rattle.vr_model.specs.declared.records.Model.{Model}
 use Rattle.vr_model.specs.declared.records.Parts.{Parts}
 use Rattle.vr_model.proofs.routes.CostBounds.{arcs-up_to, fixed-up_to, global_part-up_to, penalties-up_to, soft_part-up_to, span_part-up_to}
 
-parts_bounded : (model : Model) → IsWellFormed model → (lists : List (List ℕ)) → IsTrue (is_valid model lists) → AreBounded (parts_at model (assigned model lists))
+parts_bounded : (model : Model) → IsWellFormed model → (lists : List (List ℕ))
+    → IsTrue (is_valid model lists) → AreBounded (parts_at model (assigned model lists))
 parts_bounded model well lists valid =
     let arcs = arcs-up_to model well lists valid in
     let fixed = fixed-up_to model well lists valid in
@@ -30,7 +31,10 @@ parts_bounded model well lists valid =
 
 -- what the parts say of their sum
 sum_fits : (parts : Parts) → AreBounded parts → (pos 0 ≤ℤ sum_of parts) × (sum_of parts ≤ℤ pos (2 ^ 63 - 1))
-sum_fits parts h = (omega (arith, ints, h.arcs.at_least, h.fixed.at_least, h.global.at_least, h.penalty.at_least, h.soft.at_least, h.span.at_least), omega (arith, ints, h.sum))
+sum_fits parts h = (
+  omega (arith, ints, h.arcs.at_least, h.fixed.at_least, h.global.at_least, h.penalty.at_least, h.soft.at_least, h.span.at_least),
+  omega (arith, ints, h.sum),
+)
 
 pub costs_are_bounded : CostsAreBounded
 unfolding cost

@@ -1,5 +1,6 @@
 -- What is known of the lists of a model, of a list with one more visit, and of lists with another list for one vehicle.
-use Rattle.std.proofs.Common.{ap, eq-eqb, ◌≢◌, get_or, replicate, inl, inr, ◌≡◌, ◌∙◌, ◌<◌, ◌≤◌, ◌++◌, ℕ, zero, suc, List, [], ◌∷◌, Bool, true, false, not, refl, ap₂, sym, arith, length}
+use Rattle.std.proofs.Common.{ap, eq-eqb, ◌≢◌, get_or, replicate, inl, inr, ◌≡◌, ◌∙◌, ◌<◌, ◌≤◌, ◌++◌, ℕ, zero, suc, List, [], ◌∷◌, Bool, true, false, not, refl}
+use Rattle.std.proofs.Common.{ap₂, sym, arith, length}
 use Rattle.std.specs.Prelude.{IsTrue, ◌&&◌, ◌||◌, ◌==◌, All, nat_eq, slice_index, slice_index_or}
 use Rattle.std.specs.List.{list_all, concat, IsDistinct, AllByRecursion}
 use Rattle.std.proofs.lemmas.Bool.{eqb-true}
@@ -28,7 +29,8 @@ pub is_distinct-push : (list : List ℕ) (x : ℕ) → is_distinct list ≡ true
 is_distinct-push [] x d h = refl
 is_distinct-push (y ∷ ys) x d h =
     let other : (y == x) ≡ false = apart y x (λ same. absurd (clash (x == y) (eq-eqb x y (sym same)) (or-false_left (x == y) (holds ys x) h))) in
-    let absent : holds (ys ++ x ∷ []) y ≡ false = holds-push ys x y ∙ ap₂ (λ a b. a || b) (fails_not (holds ys y) (and_left (not (holds ys y)) (is_distinct ys) d)) other in
+    let absent : holds (ys ++ x ∷ []) y ≡ false = holds-push ys x y
+    ∙ ap₂ (λ a b. a || b) (fails_not (holds ys y) (and_left (not (holds ys y)) (is_distinct ys) d)) other in
     ap₂ (λ a b. not a && b) absent (is_distinct-push ys x (and_right (not (holds ys y)) (is_distinct ys) d) (or-false_right (x == y) (holds ys x) h))
 
 pub are_lists-count : (model : Model) (lists : List (List ℕ)) → are_lists model lists ≡ true → length lists ≡ length model.vehicles
@@ -38,13 +40,16 @@ are_lists-count model lists h = eqb-true (length lists) (length model.vehicles) 
 pub list_all-route : (p : ℕ → Bool) (lists : List (List ℕ)) (v : ℕ) → list_all p (concat lists) ≡ true → list_all p (route lists v) ≡ true
 list_all-route p [] v h = refl
 list_all-route p (list ∷ lists) zero h = and_left (list_all p list) (list_all p (concat lists)) (sym (list_all-append p list (concat lists)) ∙ h)
-list_all-route p (list ∷ lists) (suc v) h = list_all-route p lists v (and_right (list_all p list) (list_all p (concat lists)) (sym (list_all-append p list (concat lists)) ∙ h))
+list_all-route p (list ∷ lists) (suc v) h =
+    list_all-route p lists v (and_right (list_all p list) (list_all p (concat lists)) (sym (list_all-append p list (concat lists)) ∙ h))
 
 pub is_distinct-left : (xs ys : List ℕ) → is_distinct (xs ++ ys) ≡ true → is_distinct xs ≡ true
 is_distinct-left [] ys h = refl
 is_distinct-left (x ∷ xs) ys h =
-    let nowhere : (holds xs x || holds ys x) ≡ false = sym (list_any-append (λ y. x == y) xs ys) ∙ fails_not (holds (xs ++ ys) x) (and_left (not (holds (xs ++ ys) x)) (is_distinct (xs ++ ys)) h) in
-    ap₂ (λ a b. not a && b) (or-false_left (holds xs x) (holds ys x) nowhere) (is_distinct-left xs ys (and_right (not (holds (xs ++ ys) x)) (is_distinct (xs ++ ys)) h))
+    let nowhere : (holds xs x || holds ys x) ≡ false = sym (list_any-append (λ y. x == y) xs ys)
+    ∙ fails_not (holds (xs ++ ys) x) (and_left (not (holds (xs ++ ys) x)) (is_distinct (xs ++ ys)) h) in
+    ap₂ (λ a b. not a && b) (or-false_left (holds xs x) (holds ys x) nowhere)
+    (is_distinct-left xs ys (and_right (not (holds (xs ++ ys) x)) (is_distinct (xs ++ ys)) h))
 
 pub is_distinct-right : (xs ys : List ℕ) → is_distinct (xs ++ ys) ≡ true → is_distinct ys ≡ true
 is_distinct-right [] ys h = h
@@ -62,21 +67,26 @@ absent (y ∷ ys) x h = (or-false_left (x == y) (holds ys x) h, absent ys x (or-
 pub IsDistinct-from_is_distinct : (xs : List ℕ) → is_distinct xs ≡ true → IsDistinct nat_eq xs
 unfolding IsDistinct
 IsDistinct-from_is_distinct [] h = tt
-IsDistinct-from_is_distinct (x ∷ xs) h =
-    (absent xs x (fails_not (holds xs x) (and_left (not (holds xs x)) (is_distinct xs) h)), IsDistinct-from_is_distinct xs (and_right (not (holds xs x)) (is_distinct xs) h))
+IsDistinct-from_is_distinct (x ∷ xs) h = (
+  absent xs x (fails_not (holds xs x) (and_left (not (holds xs x)) (is_distinct xs) h)),
+  IsDistinct-from_is_distinct xs (and_right (not (holds xs x)) (is_distinct xs) h),
+)
 
 -- each entry of a list is a node
 pub route-below : (model : Model) (lists : List (List ℕ)) (v : ℕ) → are_lists model lists ≡ true → All (λ node. node < model.nodes) (route lists v)
 route-below model lists v h =
-    let visits = list_all-route (is_visit model) lists v (and_left (list_all (is_visit model) (concat lists)) _ (and_right (length lists == length model.vehicles) _ h)) in
-    All-weaker (λ node. is_visit model node ≡ true) (λ node. node < model.nodes) (visit_below model) (route lists v) (all-from_list_all (is_visit model) (route lists v) visits)
+    let visits = list_all-route (is_visit model) lists v
+    (and_left (list_all (is_visit model) (concat lists)) _ (and_right (length lists == length model.vehicles) _ h)) in
+    All-weaker (λ node. is_visit model node ≡ true) (λ node. node < model.nodes)
+    (visit_below model) (route lists v) (all-from_list_all (is_visit model) (route lists v) visits)
 
 -- a list has no more entries than there are nodes
 pub route-few : (model : Model) (lists : List (List ℕ)) (v : ℕ) → are_lists model lists ≡ true → length (route lists v) ≤ model.nodes
 route-few model lists v h =
     let distinct = is_distinct-route lists v (and_right (list_all (is_visit model) (concat lists)) _ (and_right (length lists == length model.vehicles) _ h)) in
     length-le_from_distinct_below (route lists v) model.nodes (IsDistinct-from_is_distinct (route lists v) distinct)
-    (λ q a. All-contains (λ node. node < model.nodes) (route lists v) q (route-below model lists v h) (Contains-from_any (λ x y e. eqb-true x y e) q (route lists v) a))
+    (λ q a. All-contains (λ node. node < model.nodes) (route lists v) q
+    (route-below model lists v h) (Contains-from_any (λ x y e. eqb-true x y e) q (route lists v) a))
 
 -- valid lists are lists of the model
 pub are-lists : (model : Model) (lists : List (List ℕ)) → is_valid model lists ≡ true → are_lists model lists ≡ true
@@ -84,17 +94,21 @@ unfolding is_valid
 are-lists model lists h = and_left (are_lists model lists) _ h
 
 pub route-visits : (model : Model) (lists : List (List ℕ)) (v : ℕ) → are_lists model lists ≡ true → list_all (is_visit model) (route lists v) ≡ true
-route-visits model lists v h = list_all-route (is_visit model) lists v (and_left (list_all (is_visit model) (concat lists)) _ (and_right (length lists == length model.vehicles) _ h))
+route-visits model lists v h =
+    list_all-route (is_visit model) lists v (and_left (list_all (is_visit model) (concat lists)) _ (and_right (length lists == length model.vehicles) _ h))
 
 pub route-distinct : (model : Model) (lists : List (List ℕ)) (v : ℕ) → are_lists model lists ≡ true → is_distinct (route lists v) ≡ true
-route-distinct model lists v h = is_distinct-route lists v (and_right (list_all (is_visit model) (concat lists)) _ (and_right (length lists == length model.vehicles) _ h))
+route-distinct model lists v h =
+    is_distinct-route lists v (and_right (list_all (is_visit model) (concat lists)) _ (and_right (length lists == length model.vehicles) _ h))
 
 -- all lists together have no more entries than there are nodes
 pub visits-few : (model : Model) (lists : List (List ℕ)) → are_lists model lists ≡ true → length (concat lists) ≤ model.nodes
 visits-few model lists h =
     let rest = and_right (length lists == length model.vehicles) _ h in
-    let below = All-weaker (λ node. is_visit model node ≡ true) (λ node. node < model.nodes) (visit_below model) (concat lists) (all-from_list_all (is_visit model) (concat lists) (and_left (list_all (is_visit model) (concat lists)) _ rest)) in
-    length-le_from_distinct_below (concat lists) model.nodes (IsDistinct-from_is_distinct (concat lists) (and_right (list_all (is_visit model) (concat lists)) _ rest))
+    let below = All-weaker (λ node. is_visit model node ≡ true) (λ node. node < model.nodes) (visit_below model) (concat lists)
+    (all-from_list_all (is_visit model) (concat lists) (and_left (list_all (is_visit model) (concat lists)) _ rest)) in
+    length-le_from_distinct_below (concat lists) model.nodes
+    (IsDistinct-from_is_distinct (concat lists) (and_right (list_all (is_visit model) (concat lists)) _ rest))
     (λ q a. All-contains (λ node. node < model.nodes) (concat lists) q below (Contains-from_any (λ x y e. eqb-true x y e) q (concat lists) a))
 
 -- a visit of a list is a node

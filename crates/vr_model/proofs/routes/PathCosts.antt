@@ -13,7 +13,8 @@ path_cost model v at nodes = total_by (cost_of_arc model) (arcs_from v at nodes)
 
 -- the arc to the next node, and those from there on
 pub path_cost-drop : (model : Model) (v at last : ℕ) (list : List ℕ) (i : ℕ) → i < length list
-    → path_cost model v at (drop i list ++ last ∷ []) ≡ arc_cost model v at (get_or list i 0) +ℤ path_cost model v (get_or list i 0) (drop (i + 1) list ++ last ∷ [])
+    → path_cost model v at (drop i list ++ last ∷ [])
+    ≡ arc_cost model v at (get_or list i 0) +ℤ path_cost model v (get_or list i 0) (drop (i + 1) list ++ last ∷ [])
 path_cost-drop model v at last list i low = ap (λ nodes. path_cost model v at (nodes ++ last ∷ [])) (drop_more list i 0 low)
 
 -- after the last of the list
@@ -22,6 +23,7 @@ pub path_cost-end : (model : Model) (v at last : ℕ) (list : List ℕ) (i : ℕ
 path_cost-end model v at last list i high = ap (λ nodes. path_cost model v at (nodes ++ last ∷ [])) (drop_all i list high)
 
 -- a route with visits goes from the start through them to the end
-pub route_cost-used : (model : Model) (v : ℕ) (list : List ℕ) → (length list == 0) ≡ false → route_cost model v list ≡ path_cost model v (vehicle_at model v).start (list ++ (vehicle_at model v).end ∷ [])
+pub route_cost-used : (model : Model) (v : ℕ) (list : List ℕ) → (length list == 0) ≡ false
+    → route_cost model v list ≡ path_cost model v (vehicle_at model v).start (list ++ (vehicle_at model v).end ∷ [])
 route_cost-used model v [] h = absurd (cc)
 route_cost-used model v (x ∷ xs) h = refl

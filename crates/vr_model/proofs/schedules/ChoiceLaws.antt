@@ -48,7 +48,8 @@ feasible_is line e = go (find_chosen line) e
 pub reached_is : (line : Line) (k b : ℕ) (x : ℤ) → IsTrue (is_reached line k b x) → IsReached line k b x
 reached_is line k b x e = go (find_plan before_only (λ plan. is_same_number x (cumul plan k)) (front line k b)) e
   where
-    go : (c : ((p : Plan) × IsLeastPlan before_only (λ plan. is_same_number x (cumul plan k)) (front line k b) p) ⊎ NoPlan before_only (λ plan. is_same_number x (cumul plan k)) (front line k b)) → was_found c ≡ true → IsReached line k b x
+    go : (c : ((p : Plan) × IsLeastPlan before_only (λ plan. is_same_number x (cumul plan k)) (front line k b) p)
+        ⊎ NoPlan before_only (λ plan. is_same_number x (cumul plan k)) (front line k b)) → was_found c ≡ true → IsReached line k b x
     go (inl r) e = (r.0, r.1.keeps, sym (eq_of_tests x (cumul r.0 k) r.1.passes))
     go (inr none) e = absurd (no e)
       where
@@ -58,14 +59,16 @@ reached_is line k b x e = go (find_plan before_only (λ plan. is_same_number x (
 pub reached_true : (line : Line) (k b : ℕ) (x : ℤ) → IsReached line k b x → IsTrue (is_reached line k b x)
 reached_true line k b x f = go (find_plan before_only (λ plan. is_same_number x (cumul plan k)) (front line k b))
   where
-    go : (c : ((p : Plan) × IsLeastPlan before_only (λ plan. is_same_number x (cumul plan k)) (front line k b) p) ⊎ NoPlan before_only (λ plan. is_same_number x (cumul plan k)) (front line k b)) → was_found c ≡ true
+    go : (c : ((p : Plan) × IsLeastPlan before_only (λ plan. is_same_number x (cumul plan k)) (front line k b) p)
+        ⊎ NoPlan before_only (λ plan. is_same_number x (cumul plan k)) (front line k b)) → was_found c ≡ true
     go (inl r) = refl
     go (inr none) = absurd (none f.0 f.1 (tests_of_eq x (cumul f.0 k) (sym f.2)))
 
 pub reaches_is : (line : Line) (k b : ℕ) (x : ℤ) → IsTrue (reaches_end line k b x) → ReachesEnd line k b x
 reaches_is line k b x e = go (find_plan after_only (λ plan. is_same_number x (cumul plan 0)) (back line k b)) e
   where
-    go : (c : ((p : Plan) × IsLeastPlan after_only (λ plan. is_same_number x (cumul plan 0)) (back line k b) p) ⊎ NoPlan after_only (λ plan. is_same_number x (cumul plan 0)) (back line k b)) → was_found c ≡ true → ReachesEnd line k b x
+    go : (c : ((p : Plan) × IsLeastPlan after_only (λ plan. is_same_number x (cumul plan 0)) (back line k b) p)
+        ⊎ NoPlan after_only (λ plan. is_same_number x (cumul plan 0)) (back line k b)) → was_found c ≡ true → ReachesEnd line k b x
     go (inl r) e = (r.0, r.1.keeps, sym (eq_of_tests x (cumul r.0 0) r.1.passes))
     go (inr none) e = absurd (no e)
       where
@@ -75,7 +78,8 @@ reaches_is line k b x e = go (find_plan after_only (λ plan. is_same_number x (c
 pub reaches_true : (line : Line) (k b : ℕ) (x : ℤ) → ReachesEnd line k b x → IsTrue (reaches_end line k b x)
 reaches_true line k b x f = go (find_plan after_only (λ plan. is_same_number x (cumul plan 0)) (back line k b))
   where
-    go : (c : ((p : Plan) × IsLeastPlan after_only (λ plan. is_same_number x (cumul plan 0)) (back line k b) p) ⊎ NoPlan after_only (λ plan. is_same_number x (cumul plan 0)) (back line k b)) → was_found c ≡ true
+    go : (c : ((p : Plan) × IsLeastPlan after_only (λ plan. is_same_number x (cumul plan 0)) (back line k b) p)
+        ⊎ NoPlan after_only (λ plan. is_same_number x (cumul plan 0)) (back line k b)) → was_found c ≡ true
     go (inl r) = refl
     go (inr none) = absurd (none f.0 f.1 (tests_of_eq x (cumul f.0 0) (sym f.2)))
 

@@ -19,8 +19,10 @@ front_sound line sound k b in_line few =
     record {
       stops = omega (arith, t, n);
       visits = λ i h. subst (λ arc. pos 0 ≤ℤ arc.visit) (sym (arc_front line k b i (omega (arith, h, n)))) (sound.visits i (omega (arith, h, n, in_line)));
-      durations = λ i h. subst (λ row. pos 1 ≤ℤ row.duration) (sym (break_front line k b i (omega (arith, h, m)))) (sound.durations i (omega (arith, h, m, few)));
-      forward = λ some i h. subst (λ arc. pos 0 ≤ℤ arc.transit) (sym (arc_front line k b i (omega (arith, h, n)))) (sound.forward (omega (arith, some, m, few)) i (omega (arith, h, n, in_line)));
+      durations =
+          λ i h. subst (λ row. pos 1 ≤ℤ row.duration) (sym (break_front line k b i (omega (arith, h, m)))) (sound.durations i (omega (arith, h, m, few)));
+      forward = λ some i h. subst (λ arc. pos 0 ≤ℤ arc.transit) (sym (arc_front line k b i (omega (arith, h, n))))
+          (sound.forward (omega (arith, some, m, few)) i (omega (arith, h, n, in_line)));
     }
 
 front_front : (line : Line) (k a b : ℕ) → a ≤ b → front (front line (suc k) b) k a ≡ front line k a
@@ -54,14 +56,24 @@ reached_by_crossing line sound k b in_line few x = (there, onward)
           h.0,
           few_a,
           cumul r.0 k,
-          (front_plan r.0 k h.0, subst (λ l. KeepsRules before_only l (front_plan r.0 k h.0)) (front_front line k h.0 b few_a) h.2, cumul_front (front line (suc k) b) r.0 k h.0 k (omega arith)),
-          (back_plan r.0 k h.0, h.3, cumul_back (front line (suc k) b) r.0 k h.0 0 ∙ ap (cumul r.0) z, cumul_back (front line (suc k) b) r.0 k h.0 1 ∙ (ap (cumul r.0) o ∙ r.2)),
+          (
+            front_plan r.0 k h.0,
+            subst (λ l. KeepsRules before_only l (front_plan r.0 k h.0)) (front_front line k h.0 b few_a) h.2,
+            cumul_front (front line (suc k) b) r.0 k h.0 k (omega arith),
+          ),
+          (
+            back_plan r.0 k h.0,
+            h.3,
+            cumul_back (front line (suc k) b) r.0 k h.0 0 ∙ ap (cumul r.0) z,
+            cumul_back (front line (suc k) b) r.0 k h.0 1 ∙ (ap (cumul r.0) o ∙ r.2),
+          ),
         )
 
     onward : (a : ℕ) × (a ≤ b) × (y : ℤ) × IsReached line k a y × Crosses line k a b y x → IsReached line (suc k) b x
     onward m =
         let p = m.3.0 in let q = m.4.0 in
-        let rp : KeepsRules before_only (front (front line (suc k) b) k m.0) p = subst (λ l. KeepsRules before_only l p) (sym (front_front line k m.0 b m.1)) m.3.1 in
+        let rp : KeepsRules before_only (front (front line (suc k) b) k m.0) p = subst (λ l. KeepsRules before_only l p)
+        (sym (front_front line k m.0 b m.1)) m.3.1 in
         let few_a : m.0 ≤ length (front line (suc k) b).breaks = (let l = m.1 in omega (arith, l, breaks)) in
         let meet : cumul p k ≡ cumul q 0 = m.3.2 ∙ sym m.4.2 in
         let o : suc k ≡ k + 1 = omega arith in (

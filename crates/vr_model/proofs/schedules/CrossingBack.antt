@@ -20,7 +20,8 @@ back_sound line sound k b in_line few =
       stops = omega (arith, s, t, n, in_line);
       visits = λ i h. subst (λ arc. pos 0 ≤ℤ arc.visit) (sym (arc_back line k b i)) (sound.visits (k + i) (omega (arith, h, n)));
       durations = λ i h. subst (λ row. pos 1 ≤ℤ row.duration) (sym (break_back line k b i)) (sound.durations (b + i) (omega (arith, h, m)));
-      forward = λ some i h. subst (λ arc. pos 0 ≤ℤ arc.transit) (sym (arc_back line k b i)) (sound.forward (omega (arith, some, m)) (k + i) (omega (arith, h, n)));
+      forward =
+          λ some i h. subst (λ arc. pos 0 ≤ℤ arc.transit) (sym (arc_back line k b i)) (sound.forward (omega (arith, some, m)) (k + i) (omega (arith, h, n)));
     }
 
 -- the first arc of the back of a line, and what follows it
@@ -84,8 +85,10 @@ end_reached_by_crossing line sound k a in_line few y = (there, onward)
         let p = m.4.0 in let q = m.5.0 in
         let low = m.1 in let high = m.2 in
         let c : a + (m.0 - a) ≡ m.0 = omega (arith, low) in
-        let rp : KeepsRules no_side (front (back line k a) 1 (m.0 - a)) p = subst (λ l. KeepsRules no_side l p) (sym (front_back line k a (m.0 - a) ∙ ap (λ n. back (front line (suc k) n) k a) c)) m.4.1 in
-        let rq : KeepsRules after_only (back (back line k a) 1 (m.0 - a)) q = subst (λ l. KeepsRules after_only l q) (sym (back_back line k a (m.0 - a) ∙ ap (back line (suc k)) c)) m.5.1 in
+        let rp : KeepsRules no_side (front (back line k a) 1 (m.0 - a)) p = subst (λ l. KeepsRules no_side l p)
+        (sym (front_back line k a (m.0 - a) ∙ ap (λ n. back (front line (suc k) n) k a) c)) m.4.1 in
+        let rq : KeepsRules after_only (back (back line k a) 1 (m.0 - a)) q = subst (λ l. KeepsRules after_only l q)
+        (sym (back_back line k a (m.0 - a) ∙ ap (back line (suc k)) c)) m.5.1 in
         let one : 1 ≤ length (back line k a).arcs = omega (arith, arcs, in_line) in
         let few_c : m.0 - a ≤ length (back line k a).breaks = omega (arith, breaks, low, high) in
         let meet : cumul p 1 ≡ cumul q 0 = m.4.3 ∙ sym m.5.2 in (

@@ -1,9 +1,11 @@
 -- The levels of the first and of the last stop.
-use Rattle.std.proofs.Common.{◌≡◌, ℕ, zero, suc, ◌<◌, ◌⊎◌, true, false, ◌&&◌, List, [], ◌∷◌, length, take, drop, refl, sym, ◌∙◌, ap, subst, inl, inr, arith, ◌+◌}
+use Rattle.std.proofs.Common.{◌≡◌, ℕ, zero, suc, ◌<◌, ◌⊎◌, true, false, ◌&&◌, List, [], ◌∷◌, length, take, drop, refl, sym, ◌∙◌, ap, subst, inl, inr, arith}
+use Rattle.std.proofs.Common.{◌+◌}
 use Rattle.std.specs.Prelude.{ℤ, ◌≤ℤ◌, int_le, IsTrue}
 use Rattle.vr_model.specs.tables.Numbers.{number_at}
 use Rattle.vr_model.specs.schedules.Lines.{Line}
-use Rattle.vr_model.specs.schedules.Schedules.{Plan, Sides, before_only, after_only, KeepsRules, IsReached, ReachesEnd, front, back, cumul, allows, break_start, break_end, is_before, is_after, is_inside}
+use Rattle.vr_model.specs.schedules.Schedules.{Plan, Sides, before_only, after_only, KeepsRules, IsReached, ReachesEnd, front, back, cumul, allows, break_start}
+use Rattle.vr_model.specs.schedules.Schedules.{break_end, is_before, is_after, is_inside}
 use Rattle.vr_model.specs.schedules.Levels.{AreStarts, FitBefore, FitAfter, ReachedAtStart, ReachedAtEnd}
 use Rattle.vr_model.specs.deciding.Testing.{le_of_test, test_of_le}
 use Rattle.vr_model.proofs.schedules.LineParts.{allows_front, allows_back, arcs_front, stops_front, arcs_back, stops_back}
@@ -19,8 +21,10 @@ no_false h = absurd (clash h)
     clash e = Prim.cc
 
 -- such a plan keeps the rules of a line of one stop that allows x, where each break is placed before x or after it
-one_stop : (sides : Sides) (line : Line) (x : ℤ) (starts : List ℤ) → length line.arcs ≡ 0 → length line.allowed ≡ 1 → IsTrue (allows line 0 x) → AreStarts line.breaks starts
-    → ((i : ℕ) → i < length line.breaks → IsTrue (sides.may_precede && is_before line (at_one_stop x starts) i) ⊎ IsTrue (sides.may_follow && is_after line (at_one_stop x starts) i)
+one_stop : (sides : Sides) (line : Line) (x : ℤ) (starts : List ℤ) → length line.arcs ≡ 0
+    → length line.allowed ≡ 1 → IsTrue (allows line 0 x) → AreStarts line.breaks starts
+    → ((i : ℕ) → i < length line.breaks
+    → IsTrue (sides.may_precede && is_before line (at_one_stop x starts) i) ⊎ IsTrue (sides.may_follow && is_after line (at_one_stop x starts) i)
     ⊎ (k : ℕ) × (k < length line.arcs) × IsTrue (is_inside line (at_one_stop x starts) i k))
     → KeepsRules sides line (at_one_stop x starts)
 one_stop sides line x starts arcs stops allowed are placed = record {
@@ -52,10 +56,15 @@ reached_at_start line sound b few x = (there, onward)
     there : IsReached line 0 b x → IsTrue (allows line 0 x) × FitBefore (take b line.breaks) x
     there r = (
       subst (λ y. IsTrue (allows line 0 y)) r.2 (sym (allows_front line 0 b 0 (cumul r.0 0) (omega arith)) ∙ r.1.cumuls_allowed 0 (omega (arith, stops))),
-      (r.0.breaks, record { one_of_each = r.1.start_of_each_break; in_range = r.1.breaks_in_range; in_order = r.1.breaks_in_order }, λ i low. before i (r.1.breaks_placed i low)),
+      (
+        r.0.breaks,
+        record { one_of_each = r.1.start_of_each_break; in_range = r.1.breaks_in_range; in_order = r.1.breaks_in_order },
+        λ i low. before i (r.1.breaks_placed i low),
+      ),
     )
       where
-        before : (i : ℕ) → IsTrue (true && is_before (front line 0 b) r.0 i) ⊎ IsTrue (false && is_after (front line 0 b) r.0 i) ⊎ (k : ℕ) × (k < length (front line 0 b).arcs) × IsTrue (is_inside (front line 0 b) r.0 i k)
+        before : (i : ℕ) → IsTrue (true && is_before (front line 0 b) r.0 i) ⊎ IsTrue (false && is_after (front line 0 b) r.0 i)
+            ⊎ (k : ℕ) × (k < length (front line 0 b).arcs) × IsTrue (is_inside (front line 0 b) r.0 i k)
             → break_end (front line 0 b) r.0 i ≤ℤ x
         before i (inl t) = subst (λ y. break_end (front line 0 b) r.0 i ≤ℤ y) r.2 (le_of_test (break_end (front line 0 b) r.0 i) (cumul r.0 0) t)
         before i (inr (inl t)) = no_false t
@@ -87,14 +96,19 @@ reached_at_end line sound b few x = (there, onward)
     there : ReachesEnd line (length line.arcs) b x → IsTrue (allows line (length line.arcs) x) × FitAfter (drop b line.breaks) x
     there r = (
       subst (λ y. IsTrue (allows line (length line.arcs) y)) r.2 (sym (here (cumul r.0 0)) ∙ r.1.cumuls_allowed 0 (omega (arith, stops))),
-      (r.0.breaks, record { one_of_each = r.1.start_of_each_break; in_range = r.1.breaks_in_range; in_order = r.1.breaks_in_order }, λ i low. after i (r.1.breaks_placed i low)),
+      (
+        r.0.breaks,
+        record { one_of_each = r.1.start_of_each_break; in_range = r.1.breaks_in_range; in_order = r.1.breaks_in_order },
+        λ i low. after i (r.1.breaks_placed i low),
+      ),
     )
       where
         after : (i : ℕ) → IsTrue (false && is_before (back line (length line.arcs) b) r.0 i) ⊎ IsTrue (true && is_after (back line (length line.arcs) b) r.0 i)
             ⊎ (k : ℕ) × (k < length (back line (length line.arcs) b).arcs) × IsTrue (is_inside (back line (length line.arcs) b) r.0 i k)
             → x ≤ℤ break_start r.0 i
         after i (inl t) = no_false t
-        after i (inr (inl t)) = subst (λ y. y ≤ℤ break_start r.0 i) (ap (cumul r.0) arcs ∙ r.2) (le_of_test (cumul r.0 (length (back line (length line.arcs) b).arcs)) (break_start r.0 i) t)
+        after i (inr (inl t)) = subst (λ y. y ≤ℤ break_start r.0 i) (ap (cumul r.0) arcs ∙ r.2)
+            (le_of_test (cumul r.0 (length (back line (length line.arcs) b).arcs)) (break_start r.0 i) t)
         after i (inr (inr t)) = absurd (let l = t.1 in omega (arith, l, arcs))
 
     onward : IsTrue (allows line (length line.arcs) x) × FitAfter (drop b line.breaks) x → ReachesEnd line (length line.arcs) b x

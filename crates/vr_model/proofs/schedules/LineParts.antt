@@ -6,7 +6,8 @@ use Rattle.std.proofs.lemmas.Bool.{cases_lt}
 use Rattle.std.proofs.lemmas.List.{get_or-take, get_or-drop, length-take-le, length-drop}
 use Rattle.vr_model.specs.tables.Numbers.{within, horizon}
 use Rattle.vr_model.specs.schedules.Lines.{Line}
-use Rattle.vr_model.specs.schedules.Schedules.{no_arc, no_break, Plan, sides, KeepsRules, front, back, cumul, allows, arc_at, break_at, break_start, break_end, is_inside}
+use Rattle.vr_model.specs.schedules.Schedules.{no_arc, no_break, Plan, sides, KeepsRules, front, back, cumul, allows, arc_at, break_at, break_start, break_end}
+use Rattle.vr_model.specs.schedules.Schedules.{is_inside}
 use Rattle.vr_model.specs.deciding.Testing.{and_left, and_right, le_of_test}
 
 -- a fact of each place below k, and of each place k + m, is one of each place
@@ -21,7 +22,8 @@ pub split_point : (p : ℕ → Bool) (n : ℕ) → (b : ℕ) × (b ≤ n) × ((i
 split_point p zero = (0, omega arith, λ i h. absurd (omega arith), λ h. absurd (omega arith))
 split_point p (suc n) = go (split_point p n)
   where
-    go : (b : ℕ) × (b ≤ n) × ((i : ℕ) → i < b → IsTrue (p i)) × (b < n → p b ≡ false) → (b : ℕ) × (b ≤ suc n) × ((i : ℕ) → i < b → IsTrue (p i)) × (b < suc n → p b ≡ false)
+    go : (b : ℕ) × (b ≤ n) × ((i : ℕ) → i < b → IsTrue (p i)) × (b < n → p b ≡ false)
+        → (b : ℕ) × (b ≤ suc n) × ((i : ℕ) → i < b → IsTrue (p i)) × (b < suc n → p b ≡ false)
     go r = elim (cases_lt r.0 n) [
       | inl l ↦ (r.0, omega (arith, l), r.2, λ h. r.3 l)
       | inr l ↦ at_end l (p n) refl
@@ -31,7 +33,12 @@ split_point p (suc n) = go (split_point p n)
         all l i h = r.2 i (omega (arith, l, h))
 
         at_end : n ≤ r.0 → (b : Bool) → p n ≡ b → (b : ℕ) × (b ≤ suc n) × ((i : ℕ) → i < b → IsTrue (p i)) × (b < suc n → p b ≡ false)
-        at_end l true e = (suc n, omega arith, λ i h. elim (cases_lt i n) [ inl k ↦ all l i k | inr k ↦ (let f : n ≡ i = omega arith in subst (λ j. IsTrue (p j)) f e) ], λ h. absurd (omega arith))
+        at_end l true e = (
+          suc n,
+          omega arith,
+          λ i h. elim (cases_lt i n) [ inl k ↦ all l i k | inr k ↦ (let f : n ≡ i = omega arith in subst (λ j. IsTrue (p j)) f e) ],
+          λ h. absurd (omega arith),
+        )
         at_end l false e = (n, omega arith, all l, λ h. e)
 
 -- ---- accessors of the front
@@ -87,10 +94,13 @@ module _ (before after : Bool) (line : Line) (plan : Plan) (rules : KeepsRules (
       rw e (omega (arith, ints, first, left, bounded, t))
 
   pub ascends_to : EachIndex line.arcs (λ k. pos 0 ≤ℤ (arc_at line k).transit) → (i j : ℕ) → i ≤ j → j ≤ length line.arcs → cumul plan i ≤ℤ cumul plan j
-  ascends_to forward i j low high = let e : i + (j - i) ≡ j = omega arith in subst (λ n. cumul plan i ≤ℤ cumul plan n) e (ascends forward (j - i) i (omega (arith, low, high)))
+  ascends_to forward i j low high =
+      let e : i + (j - i) ≡ j = omega arith in
+      subst (λ n. cumul plan i ≤ℤ cumul plan n) e (ascends forward (j - i) i (omega (arith, low, high)))
 
   -- breaks start in order
-  pub starts_ascend : EachIndex line.breaks (λ i. pos 1 ≤ℤ (break_at line i).duration) → (m i : ℕ) → i + m < length line.breaks → break_start plan i ≤ℤ break_start plan (i + m)
+  pub starts_ascend : EachIndex line.breaks (λ i. pos 1 ≤ℤ (break_at line i).duration)
+      → (m i : ℕ) → i + m < length line.breaks → break_start plan i ≤ℤ break_start plan (i + m)
   starts_ascend durations zero i h = let e : i + 0 ≡ i = omega arith in rw e (omega (arith, ints))
   starts_ascend durations (suc m) i h =
       let e : i + suc m ≡ suc (i + m) = omega arith in

@@ -1,5 +1,6 @@
 -- The line of a well-formed model is sound.
-use Rattle.std.proofs.Common.{◌≡◌, ℕ, zero, suc, ◌+◌, ◌<◌, Bool, true, false, ◌&&◌, not, List, [], ◌∷◌, ◌++◌, length, map, Option, Some, None, refl, sym, ◌∙◌, ap, subst, arith, cond}
+use Rattle.std.proofs.Common.{◌≡◌, ℕ, zero, suc, ◌+◌, ◌<◌, Bool, true, false, ◌&&◌, not, List, [], ◌∷◌, ◌++◌, length, map, Option, Some, None, refl, sym, ◌∙◌}
+use Rattle.std.proofs.Common.{ap, subst, arith, cond}
 use Rattle.std.specs.Prelude.{ℤ, pos, ◌≤ℤ◌, ◌==◌, ◌||◌, nat_lt, IsTrue, slice_index_or, find, option_map, unwrap_or, EachIndex}
 use Rattle.std.specs.List.{All, list_all, list_any}
 use Rattle.std.proofs.lemmas.Int.{ints}
@@ -41,7 +42,8 @@ module _ (model : Model) where
 
   -- a visit is no start and no end
   visit_apart : (node other : ℕ) → IsTrue (is_visit model node) → is_terminal model other ≡ true → (node == other) ≡ false
-  visit_apart node other h t = fails (node == other) (λ e. clash (is_terminal model node) (ap (is_terminal model) (eq_of_test node other e) ∙ t) (not_terminal node h))
+  visit_apart node other h t =
+      fails (node == other) (λ e. clash (is_terminal model node) (ap (is_terminal model) (eq_of_test node other e) ∙ t) (not_terminal node h))
 
   apart_back : (node other : ℕ) → (node == other) ≡ false → (other == node) ≡ false
   apart_back node other e = Prim.grind arith
@@ -50,7 +52,8 @@ module _ (model : Model) where
     -- the arcs from a visit on
     from_visit : (x : ℕ) (xs : List ℕ) → IsTrue (is_visit model x) → IsTrue (list_all (is_visit model) xs) → holds xs x ≡ false → IsTrue (is_distinct xs)
         → All (IsTaken model) (arcs_from v x (xs ++ final ∷ []))
-    from_visit x [] visit visits absent distinct zero d low = record { origin_low = visit_low x visit; target_low = final_low; apart = visit_apart x final visit final_ends }
+    from_visit x [] visit visits absent distinct zero d low =
+        record { origin_low = visit_low x visit; target_low = final_low; apart = visit_apart x final visit final_ends }
     from_visit x [] visit visits absent distinct (suc k) d low = absurd (omega (arith, low))
     from_visit x (y ∷ ys) visit visits absent distinct zero d low =
         record { origin_low = visit_low x visit; target_low = visit_low y (and_left (is_visit model y) _ visits); apart = first (x == y) absent }
@@ -59,16 +62,23 @@ module _ (model : Model) where
         first false e = refl
         first true e = e
     from_visit x (y ∷ ys) visit visits absent distinct (suc k) d low =
-        from_visit y ys (and_left (is_visit model y) _ visits) (and_right (is_visit model y) _ visits) (fails_not (holds ys y) (and_left (not (holds ys y)) _ distinct)) (and_right (not (holds ys y)) _ distinct) k d (omega (arith, low))
+        from_visit y ys (and_left (is_visit model y) _ visits) (and_right (is_visit model y) _ visits)
+        (fails_not (holds ys y) (and_left (not (holds ys y)) _ distinct)) (and_right (not (holds ys y)) _ distinct) k d (omega (arith, low))
 
     -- the arcs from a start on
-    from_start : (start : ℕ) → start < model.nodes → is_terminal model start ≡ true → (list : List ℕ) → is_empty list ≡ false → IsTrue (list_all (is_visit model) list) → IsTrue (is_distinct list)
+    from_start : (start : ℕ) → start < model.nodes → is_terminal model start ≡ true → (list : List ℕ)
+        → is_empty list ≡ false → IsTrue (list_all (is_visit model) list) → IsTrue (is_distinct list)
         → All (IsTaken model) (arcs_from v start (list ++ final ∷ []))
     from_start start start_low start_ends [] some visits distinct k d low = absurd (clash true refl some)
     from_start start start_low start_ends (x ∷ xs) some visits distinct zero d low =
-        record { origin_low = start_low; target_low = visit_low x (and_left (is_visit model x) _ visits); apart = apart_back x start (visit_apart x start (and_left (is_visit model x) _ visits) start_ends) }
+        record {
+          origin_low = start_low;
+          target_low = visit_low x (and_left (is_visit model x) _ visits);
+          apart = apart_back x start (visit_apart x start (and_left (is_visit model x) _ visits) start_ends);
+        }
     from_start start start_low start_ends (x ∷ xs) some visits distinct (suc k) d low =
-        from_visit x xs (and_left (is_visit model x) _ visits) (and_right (is_visit model x) _ visits) (fails_not (holds xs x) (and_left (not (holds xs x)) _ distinct)) (and_right (not (holds xs x)) _ distinct) k d (omega (arith, low))
+        from_visit x xs (and_left (is_visit model x) _ visits) (and_right (is_visit model x) _ visits)
+        (fails_not (holds xs x) (and_left (not (holds xs x)) _ distinct)) (and_right (not (holds xs x)) _ distinct) k d (omega (arith, low))
 
 -- ---- breaks
 
@@ -92,7 +102,8 @@ module _ (dimension : Dimension) (v : ℕ) where
   some_break : 0 < length (breaks_of dimension v) → has_breaks dimension ≡ true
   some_break = go dimension.breaks
     where
-      go : (entries : List VehicleBreaks) → 0 < length (unwrap_or (option_map (λ entry. entry.rows) (find (λ entry. entry.vehicle == v) entries)) []) → list_any (λ entry. not (is_empty entry.rows)) entries ≡ true
+      go : (entries : List VehicleBreaks) → 0 < length (unwrap_or (option_map (λ entry. entry.rows) (find (λ entry. entry.vehicle == v) entries)) [])
+          → list_any (λ entry. not (is_empty entry.rows)) entries ≡ true
       go [] h = absurd (omega (arith, h))
       go (entry ∷ entries) h = either (entry.vehicle == v) (go entries) h
         where
@@ -100,7 +111,8 @@ module _ (dimension : Dimension) (v : ℕ) where
           rows [] h = absurd (omega (arith, h))
           rows (x ∷ xs) h = refl
 
-          either : (b : Bool) → (0 < length (unwrap_or (option_map (λ entry. entry.rows) (find (λ entry. entry.vehicle == v) entries)) []) → list_any (λ entry. not (is_empty entry.rows)) entries ≡ true)
+          either : (b : Bool) → (0 < length (unwrap_or (option_map (λ entry. entry.rows) (find (λ entry. entry.vehicle == v) entries)) [])
+              → list_any (λ entry. not (is_empty entry.rows)) entries ≡ true)
               → 0 < length (unwrap_or (option_map (λ entry. entry.rows) (cond b (Some entry) (find (λ entry. entry.vehicle == v) entries))) [])
               → (not (is_empty entry.rows) || list_any (λ entry. not (is_empty entry.rows)) entries) ≡ true
           either true rest h = or_left (not (is_empty entry.rows)) _ (rows entry.rows h)
@@ -117,12 +129,16 @@ module _ (model : Model) (well : IsWellFormed model) (d v : ℕ) (dimension : d 
   of_dimension = well.each_dimension d no_dimension dimension
 
   -- in a dimension with breaks or span costs no transit between distinct nodes is negative
-  transit_forward : (has_breaks (dimension_at model d) || has_span_costs (dimension_at model d)) ≡ true → (i j : ℕ) → i < model.nodes → j < model.nodes → (i == j) ≡ false → pos 0 ≤ℤ transit model d v i j
+  transit_forward : (has_breaks (dimension_at model d) || has_span_costs (dimension_at model d)) ≡ true
+      → (i j : ℕ) → i < model.nodes → j < model.nodes → (i == j) ≡ false → pos 0 ≤ℤ transit model d v i j
   transit_forward asked i j low next apart =
-      let none : has_negative_transit model d ≡ false = fails (has_negative_transit model d) (λ t. clash (goes_back model d) (and_both (has_breaks (dimension_at model d) || has_span_costs (dimension_at model d)) _ asked t) (well.transits_forward d dimension)) in
+      let none : has_negative_transit model d ≡ false = fails (has_negative_transit model d)
+      (λ t. clash (goes_back model d) (and_both (has_breaks (dimension_at model d) || has_span_costs (dimension_at model d)) _ asked t)
+      (well.transits_forward d dimension)) in
       let at_arc = none_below (λ j. not (i == j) && is_negative (transit model d v i j)) model.nodes j
       (none_below (λ i. list_any (λ j. not (i == j) && is_negative (transit model d v i j)) (below model.nodes)) model.nodes i
-      (none_below (λ v. list_any (λ i. list_any (λ j. not (i == j) && is_negative (transit model d v i j)) (below model.nodes)) (below model.nodes)) (length model.vehicles) v none vehicle) low) next in
+      (none_below (λ v. list_any (λ i. list_any (λ j. not (i == j) && is_negative (transit model d v i j)) (below model.nodes)) (below model.nodes))
+      (length model.vehicles) v none vehicle) low) next in
       not_negative (i == j) apart (transit model d v i j) at_arc
     where
       not_negative : (b : Bool) → b ≡ false → (x : ℤ) → (not b && is_negative x) ≡ false → pos 0 ≤ℤ x
@@ -131,11 +147,13 @@ module _ (model : Model) (well : IsWellFormed model) (d v : ℕ) (dimension : d 
 
   module _ (list : List ℕ) (some : is_empty list ≡ false) (visits : IsTrue (list_all (is_visit model) list)) (distinct : IsTrue (is_distinct list)) where
     starts_there : is_terminal model (vehicle_at model v).start ≡ true
-    starts_there = list_any_at (λ vehicle. (vehicle.start == (vehicle_at model v).start) || (vehicle.end == (vehicle_at model v).start)) model.vehicles v no_vehicle vehicle
+    starts_there = list_any_at (λ vehicle. (vehicle.start == (vehicle_at model v).start) || (vehicle.end == (vehicle_at model v).start))
+        model.vehicles v no_vehicle vehicle
         (or_left ((vehicle_at model v).start == (vehicle_at model v).start) _ (test_of_eq _ _ refl))
 
     ends_there : is_terminal model (vehicle_at model v).end ≡ true
-    ends_there = list_any_at (λ vehicle. (vehicle.start == (vehicle_at model v).end) || (vehicle.end == (vehicle_at model v).end)) model.vehicles v no_vehicle vehicle
+    ends_there =
+        list_any_at (λ vehicle. (vehicle.start == (vehicle_at model v).end) || (vehicle.end == (vehicle_at model v).end)) model.vehicles v no_vehicle vehicle
         (or_right ((vehicle_at model v).start == (vehicle_at model v).end) _ (test_of_eq (vehicle_at model v).end (vehicle_at model v).end refl))
 
     each_arc : All (IsTaken model) (arcs_between model v list)
@@ -149,21 +167,28 @@ module _ (model : Model) (well : IsWellFormed model) (d v : ℕ) (dimension : d 
     pub taken : (k : ℕ) → k < length (line model d v list).arcs → IsTaken model (slice_index_or (arcs_between model v list) k no_used_arc)
     taken k low = each_arc k no_used_arc (subst (λ n. k < n) (length-map (arcs_between model v list) _) low)
 
-    pub arc_is : (k : ℕ) → k < length (line model d v list).arcs → arc_at (line model d v list) k ≡ line_arc model d v (slice_index_or (arcs_between model v list) k no_used_arc)
-    arc_is k low = get_or-map (line_arc model d v) (arcs_between model v list) k no_used_arc no_arc (subst (λ n. k < n) (length-map (arcs_between model v list) _) low)
+    pub arc_is : (k : ℕ) → k < length (line model d v list).arcs
+        → arc_at (line model d v list) k ≡ line_arc model d v (slice_index_or (arcs_between model v list) k no_used_arc)
+    arc_is k low =
+        get_or-map (line_arc model d v) (arcs_between model v list) k no_used_arc no_arc (subst (λ n. k < n) (length-map (arcs_between model v list) _) low)
 
     -- and so no arc of the line has a negative transit
-    pub line_forward : (has_breaks (dimension_at model d) || has_span_costs (dimension_at model d)) ≡ true → EachIndex (line model d v list).arcs (λ k. pos 0 ≤ℤ (arc_at (line model d v list) k).transit)
+    pub line_forward : (has_breaks (dimension_at model d) || has_span_costs (dimension_at model d)) ≡ true
+        → EachIndex (line model d v list).arcs (λ k. pos 0 ≤ℤ (arc_at (line model d v list) k).transit)
     line_forward asked k low = subst (λ arc. pos 0 ≤ℤ arc.transit) (sym (arc_is k low))
         (transit_forward asked _ _ (taken k low).origin_low (taken k low).target_low (taken k low).apart)
 
     pub line_sound : IsSound (line model d v list)
     line_sound = record {
-      stops = (let a = arcs_long in let m = length-map list (λ node. stop_allows (number_at (dimension_at model d).capacities v) (row_of (dimension_at model d).nodes node)) in
-          let n = length-append (map (λ node. stop_allows (number_at (dimension_at model d).capacities v) (row_of (dimension_at model d).nodes node)) list) (stop_allows (number_at (dimension_at model d).capacities v) (row_of (dimension_at model d).ends v) ∷ []) in
+      stops = (let a = arcs_long in
+          let m = length-map list (λ node. stop_allows (number_at (dimension_at model d).capacities v) (row_of (dimension_at model d).nodes node)) in
+          let n = length-append (map (λ node. stop_allows (number_at (dimension_at model d).capacities v) (row_of (dimension_at model d).nodes node)) list)
+          (stop_allows (number_at (dimension_at model d).capacities v) (row_of (dimension_at model d).ends v) ∷ []) in
           omega (arith, a, m, n));
       visits = λ k low. subst (λ arc. pos 0 ≤ℤ arc.visit) (sym (arc_is k low))
-          (of_dimension.visit_times_in_range _ (pos 0) (subst (λ n. (slice_index_or (arcs_between model v list) k no_used_arc).origin < n) (sym of_dimension.visit_time_of_each_node) (taken k low).origin_low)).at_least;
+          (of_dimension.visit_times_in_range _ (pos 0)
+          (subst (λ n. (slice_index_or (arcs_between model v list) k no_used_arc).origin < n)
+          (sym of_dimension.visit_time_of_each_node) (taken k low).origin_low)).at_least;
       durations = λ i low. (each_break (dimension_at model d) v of_dimension.each_breaks i no_break low).duration_in_range.at_least;
       forward = λ breaks. line_forward (or_left (has_breaks (dimension_at model d)) _ (some_break (dimension_at model d) v breaks));
     }

@@ -20,7 +20,8 @@ module _ (measure : Plan → ℤ) (line : Line) where
   pub measured-is : (x : ℤ) → IsTrue (measures measure line x) → (plan : Plan) × IsSchedule line plan × (measure plan ≡ x)
   measured-is x t = go (find_plan both_sides (λ plan. is_same_number x (measure plan)) line) t
     where
-      go : (c : ((p : Plan) × IsLeastPlan both_sides (λ plan. is_same_number x (measure plan)) line p) ⊎ NoPlan both_sides (λ plan. is_same_number x (measure plan)) line) → was_found c ≡ true → (plan : Plan) × IsSchedule line plan × (measure plan ≡ x)
+      go : (c : ((p : Plan) × IsLeastPlan both_sides (λ plan. is_same_number x (measure plan)) line p)
+          ⊎ NoPlan both_sides (λ plan. is_same_number x (measure plan)) line) → was_found c ≡ true → (plan : Plan) × IsSchedule line plan × (measure plan ≡ x)
       go (inl r) t = (r.0, r.1.keeps, sym (eq_of_tests x (measure r.0) r.1.passes))
       go (inr none) t = absurd (no t)
         where
@@ -30,7 +31,8 @@ module _ (measure : Plan → ℤ) (line : Line) where
   pub measured-true : (x : ℤ) (plan : Plan) → IsSchedule line plan → measure plan ≡ x → IsTrue (measures measure line x)
   measured-true x plan s e = go (find_plan both_sides (λ plan. is_same_number x (measure plan)) line)
     where
-      go : (c : ((p : Plan) × IsLeastPlan both_sides (λ plan. is_same_number x (measure plan)) line p) ⊎ NoPlan both_sides (λ plan. is_same_number x (measure plan)) line) → was_found c ≡ true
+      go : (c : ((p : Plan) × IsLeastPlan both_sides (λ plan. is_same_number x (measure plan)) line p)
+          ⊎ NoPlan both_sides (λ plan. is_same_number x (measure plan)) line) → was_found c ≡ true
       go (inl r) = refl
       go (inr none) = absurd (none plan s (tests_of_eq x (measure plan) (sym e)))
 
@@ -40,7 +42,8 @@ module _ (measure : Plan → ℤ) (line : Line) where
     pub least : (other : Plan) → IsSchedule line other → x ≤ℤ measure other
 
   -- where there is a schedule the least measure is found
-  pub least-is : ((plan : Plan) → IsSchedule line plan → (pos 0 ≤ℤ measure plan) × (measure plan ≤ℤ horizon)) → IsFeasible line → IsLeastMeasure (least_of measure line)
+  pub least-is : ((plan : Plan) → IsSchedule line plan → (pos 0 ≤ℤ measure plan) × (measure plan ≤ℤ horizon))
+      → IsFeasible line → IsLeastMeasure (least_of measure line)
   least-is in_range feasible = go (find_least (measures measure line))
     where
       go : (found : LeastFound (measures measure line)) → IsLeastMeasure (number_found (measures measure line) found)
@@ -48,4 +51,5 @@ module _ (measure : Plan → ℤ) (line : Line) where
         reached = measured-is r.0 r.1.passes;
         least = λ other s. r.1.least (measure other) (in_range other s).0 (in_range other s).1 (measured-true (measure other) other s refl);
       }
-      go (inr none) = absurd (none (measure feasible.0) (in_range feasible.0 feasible.1).0 (in_range feasible.0 feasible.1).1 (measured-true (measure feasible.0) feasible.0 feasible.1 refl))
+      go (inr none) = absurd (none (measure feasible.0) (in_range feasible.0 feasible.1).0
+          (in_range feasible.0 feasible.1).1 (measured-true (measure feasible.0) feasible.0 feasible.1 refl))

@@ -58,7 +58,8 @@ module _ (line : Line) (stops : HasStops line) where
     start-there = let n = E-stops in omega (arith, n)
 
     pub to-between : (plan : Plan) → IsSchedule line plan → cumul plan 0 ≡ s → end_of line plan ≡ e → IsSchedule (between line s e) plan
-    to-between plan sch start end = to_pinned (pinned line (length line.arcs) e) 0 s start-there plan (to_pinned line (length line.arcs) e at-end plan sch end) start
+    to-between plan sch start end =
+        to_pinned (pinned line (length line.arcs) e) 0 s start-there plan (to_pinned line (length line.arcs) e at-end plan sch end) start
 
     pub of-between : (plan : Plan) → IsSchedule (between line s e) plan → IsSchedule line plan × (cumul plan 0 ≡ s) × (end_of line plan ≡ e)
     of-between plan sch =
@@ -90,7 +91,8 @@ module _ (line : Line) (stops : HasStops line) (feasible : IsFeasible line) wher
       let at = r.2 in
       record {
         reached = (r.0, of.0, of.1, omega (arith, ints, at));
-        greatest = λ other sch end. (let le = m.least other (to_pinned line (length line.arcs) (least_end line) (at-end line stops) other sch end) in omega (arith, ints, le));
+        greatest = λ other sch end.
+            (let le = m.least other (to_pinned line (length line.arcs) (least_end line) (at-end line stops) other sch end) in omega (arith, ints, le));
       }
 
   pub narrowed-is : (s e : ℤ) → IsLeastEnd line e → IsLatestStart line e s → narrowed Tight line ≡ between line s e

@@ -12,7 +12,8 @@ use Rattle.vr_model.specs.deciding.Testing.{and_left, and_right, and_both, or_le
 
 -- a schedule of a line is one of the line with other sets of allowed cumuls, where they have its own
 by_allowed : (line : Line) (allowed : List (ℤ → Bool)) (plan : Plan) → length allowed ≡ length line.allowed → IsSchedule line plan
-    → ((i : ℕ) → i < length line.allowed → IsTrue (allows (record line { allowed = allowed }) i (cumul plan i))) → IsSchedule (record line { allowed = allowed }) plan
+    → ((i : ℕ) → i < length line.allowed → IsTrue (allows (record line { allowed = allowed }) i (cumul plan i)))
+    → IsSchedule (record line { allowed = allowed }) plan
 by_allowed line allowed plan same s at_stop = record {
   cumul_of_each_stop = s.cumul_of_each_stop ∙ sym same;
   slack_of_each_arc = s.slack_of_each_arc;
@@ -28,10 +29,12 @@ by_allowed line allowed plan same s at_stop = record {
 
 module _ (line : Line) (k : ℕ) (x : ℤ) (there : k < length line.allowed) where
   allows_other : (i : ℕ) (y : ℤ) → i ≢ k → allows (pinned line k x) i y ≡ allows line i y
-  allows_other i y h = ap (λ t. within (pos 0) horizon y && t y) (get_or-set_other line.allowed k i (λ y. slice_index_or line.allowed k (λ _. false) y && is_same_number x y) (λ _. false) h)
+  allows_other i y h = ap (λ t. within (pos 0) horizon y && t y)
+      (get_or-set_other line.allowed k i (λ y. slice_index_or line.allowed k (λ _. false) y && is_same_number x y) (λ _. false) h)
 
   allows_there : (y : ℤ) → allows (pinned line k x) k y ≡ (within (pos 0) horizon y && (slice_index_or line.allowed k (λ _. false) y && is_same_number x y))
-  allows_there y = ap (λ t. within (pos 0) horizon y && t y) (get_or-set_same line.allowed k (λ y. slice_index_or line.allowed k (λ _. false) y && is_same_number x y) (λ _. false) there)
+  allows_there y = ap (λ t. within (pos 0) horizon y && t y)
+      (get_or-set_same line.allowed k (λ y. slice_index_or line.allowed k (λ _. false) y && is_same_number x y) (λ _. false) there)
 
   same_stops : length (pinned line k x).allowed ≡ length line.allowed
   same_stops = length-set line.allowed k (λ y. slice_index_or line.allowed k (λ _. false) y && is_same_number x y)
@@ -41,8 +44,10 @@ module _ (line : Line) (k : ℕ) (x : ℤ) (there : k < length line.allowed) whe
   to_pinned plan s e = by_allowed line (pinned line k x).allowed plan same_stops s at_stop
     where
       here : IsTrue (allows (pinned line k x) k (cumul plan k))
-      here = allows_there (cumul plan k) ∙ and_both (within (pos 0) horizon (cumul plan k)) _ (and_left (within (pos 0) horizon (cumul plan k)) _ (s.cumuls_allowed k there))
-          (and_both (slice_index_or line.allowed k (λ _. false) (cumul plan k)) _ (and_right (within (pos 0) horizon (cumul plan k)) _ (s.cumuls_allowed k there)) (tests_of_eq x (cumul plan k) (sym e)))
+      here = allows_there (cumul plan k)
+          ∙ and_both (within (pos 0) horizon (cumul plan k)) _ (and_left (within (pos 0) horizon (cumul plan k)) _ (s.cumuls_allowed k there))
+          (and_both (slice_index_or line.allowed k (λ _. false) (cumul plan k)) _
+          (and_right (within (pos 0) horizon (cumul plan k)) _ (s.cumuls_allowed k there)) (tests_of_eq x (cumul plan k) (sym e)))
 
       at_stop : (i : ℕ) → i < length line.allowed → IsTrue (allows (pinned line k x) i (cumul plan i))
       at_stop i h = elim (cases_lt i k) [
@@ -57,7 +62,8 @@ module _ (line : Line) (k : ℕ) (x : ℤ) (there : k < length line.allowed) whe
   pub of_pinned : (plan : Plan) → IsSchedule (pinned line k x) plan → IsSchedule line plan × (cumul plan k ≡ x)
   of_pinned plan s = (
     by_allowed (pinned line k x) line.allowed plan (sym same_stops) s (λ i h. at_stop i (let n = same_stops in omega (arith, h, n))),
-    sym (eq_of_tests x (cumul plan k) (and_right (slice_index_or line.allowed k (λ _. false) (cumul plan k)) _ (and_right (within (pos 0) horizon (cumul plan k)) _ here))),
+    sym (eq_of_tests x (cumul plan k)
+        (and_right (slice_index_or line.allowed k (λ _. false) (cumul plan k)) _ (and_right (within (pos 0) horizon (cumul plan k)) _ here))),
   )
     where
       here : IsTrue (within (pos 0) horizon (cumul plan k) && (slice_index_or line.allowed k (λ _. false) (cumul plan k) && within x x (cumul plan k)))
@@ -69,12 +75,14 @@ module _ (line : Line) (k : ℕ) (x : ℤ) (there : k < length line.allowed) whe
         | inr l ↦ elim (cases_lt k i) [
           | inl m ↦ sym (allows_other i (cumul plan i) (omega (arith, m))) ∙ s.cumuls_allowed i (let n = same_stops in omega (arith, h, n))
           | inr m ↦ (let j : k ≡ i = omega (arith, l, m) in subst (λ n. IsTrue (allows line n (cumul plan n))) j
-              (and_both (within (pos 0) horizon (cumul plan k)) _ (and_left (within (pos 0) horizon (cumul plan k)) _ here) (and_left (slice_index_or line.allowed k (λ _. false) (cumul plan k)) _ (and_right (within (pos 0) horizon (cumul plan k)) _ here))))
+              (and_both (within (pos 0) horizon (cumul plan k)) _ (and_left (within (pos 0) horizon (cumul plan k)) _ here)
+              (and_left (slice_index_or line.allowed k (λ _. false) (cumul plan k)) _ (and_right (within (pos 0) horizon (cumul plan k)) _ here))))
         ]
       ]
 
 -- lists that agree below place k, and of which the first is less there
-pub lex_less_at : (k : ℕ) (xs ys : List ℤ) → ((i : ℕ) → i < k → number_at xs i ≡ number_at ys i) → k < length xs → k < length ys → number_at xs k <ℤ number_at ys k → IsTrue (is_lex_le xs ys)
+pub lex_less_at : (k : ℕ) (xs ys : List ℤ) → ((i : ℕ) → i < k → number_at xs i ≡ number_at ys i)
+    → k < length xs → k < length ys → number_at xs k <ℤ number_at ys k → IsTrue (is_lex_le xs ys)
 lex_less_at k [] ys same hx hy less = absurd (omega (arith, hx))
 lex_less_at k (x ∷ xs) [] same hx hy less = absurd (omega (arith, hy))
 lex_less_at zero (x ∷ xs) (y ∷ ys) same hx hy less = or_left (int_lt x y) _ (lt_test x y less)
@@ -83,7 +91,9 @@ lex_less_at zero (x ∷ xs) (y ∷ ys) same hx hy less = or_left (int_lt x y) _ 
     lt_test x y h = Prim.grind (arith, ints)
 lex_less_at (suc k) (x ∷ xs) (y ∷ ys) same hx hy less =
     let e : x ≡ y = same 0 (omega arith) in
-    or_right (int_lt x y) _ (and_both (int_le x y) _ (test_of_le x y (omega (arith, ints, e))) (lex_less_at k xs ys (λ i h. same (suc i) (omega (arith, h))) (omega (arith, hx)) (omega (arith, hy)) less))
+    or_right (int_lt x y) _
+    (and_both (int_le x y) _ (test_of_le x y (omega (arith, ints, e)))
+    (lex_less_at k xs ys (λ i h. same (suc i) (omega (arith, h))) (omega (arith, hx)) (omega (arith, hy)) less))
 
 -- where the cumuls below stop k are settled, and x is the least cumul of stop k, the chosen schedule of the pinned line is that of the line
 pub chosen_pinned : (line : Line) (k : ℕ) (x : ℤ) → k < length line.allowed

@@ -21,7 +21,10 @@ lex_both (x ∷ xs) (y ∷ ys) e h g =
     first_entries : (x y : ℤ) (b c : Bool) → IsTrue (int_lt x y || (int_le x y && b)) → IsTrue (int_lt y x || (int_le y x && c)) → (x ≡ y) × IsTrue b × IsTrue c
     first_entries x y b c h g = elim (or_cases (int_lt x y) _ h) [
       | inl l ↦ elim (or_cases (int_lt y x) _ g) [ inl m ↦ absurd (clash l m) | inr m ↦ absurd (clash_le x y l (and_left (int_le y x) c m)) ]
-      | inr l ↦ elim (or_cases (int_lt y x) _ g) [ inl m ↦ absurd (clash_le y x m (and_left (int_le x y) b l)) | inr m ↦ (same (and_left (int_le x y) b l) (and_left (int_le y x) c m), and_right (int_le x y) b l, and_right (int_le y x) c m) ]
+      | inr l ↦ elim (or_cases (int_lt y x) _ g) [
+        | inl m ↦ absurd (clash_le y x m (and_left (int_le x y) b l))
+        | inr m ↦ (same (and_left (int_le x y) b l) (and_left (int_le y x) c m), and_right (int_le x y) b l, and_right (int_le y x) c m)
+      ]
     ]
       where
         clash : IsTrue (int_lt x y) → IsTrue (int_lt y x) → ⊥
@@ -36,5 +39,9 @@ lex_both (x ∷ xs) (y ∷ ys) e h g =
 -- there is only one chosen schedule
 pub chosen_same : (line : Line) (p q : Plan) → IsChosen line p → IsChosen line q → p ≡ q
 chosen_same line p q cp cq =
-    let e : plan_key p ≡ plan_key q = lex_both (plan_key p) (plan_key q) (length-append p.cumuls p.breaks ∙ (ap₂ (λ m n. m + n) (cp.schedule.cumul_of_each_stop ∙ sym cq.schedule.cumul_of_each_stop) (cp.schedule.start_of_each_break ∙ sym cq.schedule.start_of_each_break) ∙ sym (length-append q.cumuls q.breaks))) (cp.least q cq.schedule) (cq.least p cp.schedule) in
+    let e : plan_key p ≡ plan_key q = lex_both (plan_key p) (plan_key q)
+    (length-append p.cumuls p.breaks
+    ∙ (ap₂ (λ m n. m + n) (cp.schedule.cumul_of_each_stop ∙ sym cq.schedule.cumul_of_each_stop)
+    (cp.schedule.start_of_each_break ∙ sym cq.schedule.start_of_each_break) ∙ sym (length-append q.cumuls q.breaks)))
+    (cp.least q cq.schedule) (cq.least p cp.schedule) in
     sym (plan_of-key both_sides line p cp.schedule) ∙ (ap (plan_of_key line) e ∙ plan_of-key both_sides line q cq.schedule)

@@ -7,7 +7,8 @@ use Rattle.vr_model.proofs.schedules.OneChosen.{chosen_same}
 use Rattle.vr_model.proofs.schedules.ChoiceLaws.{chosen_is_least, chosen_where_feasible}
 use Rattle.vr_model.specs.schedules.Tight.{IsTight}
 use Rattle.vr_model.specs.schedules.Narrowed.{ending_first, latest_start, least_end, narrowed}
-use Rattle.vr_model.specs.schedules.RuleLaws.{HasStops, NarrowedChooses, ChosenUnderIsChosen, ChosenUnderWhereFeasible, OneChosenUnder, NarrowedKeepsRules, NarrowedToEnds}
+use Rattle.vr_model.specs.schedules.RuleLaws.{HasStops, NarrowedChooses, ChosenUnderIsChosen, ChosenUnderWhereFeasible, OneChosenUnder, NarrowedKeepsRules}
+use Rattle.vr_model.specs.schedules.RuleLaws.{NarrowedToEnds}
 use Rattle.vr_model.specs.declared.records.ScheduleRule.{ScheduleRule}
 use Rattle.vr_model.specs.declared.records.ScheduleRule.TheVariants.{Earliest, Tight}
 use Rattle.vr_model.proofs.schedules.NarrowLines.{end-is, narrowed-is, of-between, start-is, to-between}

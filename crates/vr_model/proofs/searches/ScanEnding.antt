@@ -1,5 +1,6 @@
 -- How a scan ends.
-use Rattle.std.proofs.Common.{◌≡◌, ℕ, zero, suc, ◌+◌, ◌-◌, ◌<◌, ◌≤◌, Bool, true, false, cond, List, [], ◌∷◌, length, refl, ◌∙◌, ap, subst, inl, inr, arith, ◌⊎◌, nat_lt, nat_le}
+use Rattle.std.proofs.Common.{◌≡◌, ℕ, zero, suc, ◌+◌, ◌-◌, ◌<◌, ◌≤◌, Bool, true, false, cond, List, [], ◌∷◌, length, refl, ◌∙◌, ap, subst, inl, inr, arith, ◌⊎◌}
+use Rattle.std.proofs.Common.{nat_lt, nat_le}
 use Rattle.std.specs.Prelude.{slice_index_or}
 use Rattle.vr_model.specs.search.Scans.{Scan, scan_from, scan}
 use Rattle.vr_model.specs.search.Scans.Scan.{Accepted, Complete, Cut}
@@ -11,13 +12,15 @@ module _ (acceptable : Move → Bool) (rest : ℕ) where
   abbrev EndsFrom : ℕ → List Move → Scan → Type 0
   EndsFrom place ms (Accepted k mv) = (j : ℕ) × (k ≡ place + j) × IsFirstAcceptable ms acceptable j mv × (k ≤ rest)
   EndsFrom place ms (Complete n) = NoneAcceptable ms acceptable × (n ≡ place + length ms) × (n ≤ rest)
-  EndsFrom place ms Cut = ((j : ℕ) × (mv : Move) × IsFirstAcceptable ms acceptable j mv × (rest < place + j)) ⊎ (NoneAcceptable ms acceptable × (rest < place + length ms))
+  EndsFrom place ms Cut = ((j : ℕ) × (mv : Move) × IsFirstAcceptable ms acceptable j mv × (rest < place + j))
+      ⊎ (NoneAcceptable ms acceptable × (rest < place + length ms))
 
   none_more : (m : Move) (ms : List Move) → acceptable m ≡ false → NoneAcceptable ms acceptable → NoneAcceptable (m ∷ ms) acceptable
   none_more m ms e h zero d low = e
   none_more m ms e h (suc k) d low = h k d (omega (arith, low))
 
-  first_more : (m : Move) (ms : List Move) (j : ℕ) (mv : Move) → acceptable m ≡ false → IsFirstAcceptable ms acceptable j mv → IsFirstAcceptable (m ∷ ms) acceptable (suc j) mv
+  first_more : (m : Move) (ms : List Move) (j : ℕ) (mv : Move) → acceptable m ≡ false
+      → IsFirstAcceptable ms acceptable j mv → IsFirstAcceptable (m ∷ ms) acceptable (suc j) mv
   first_more m ms j mv e f = record {
     from_one = omega arith;
     in_list = (let l = f.in_list in omega (arith, l));
@@ -41,7 +44,13 @@ module _ (acceptable : Move → Bool) (rest : ℕ) where
   passed place m ms e Cut (inr h) = inr (none_more m ms e h.0, (let p = h.1 in omega (arith, p)))
 
   here : (m : Move) (ms : List Move) → acceptable m ≡ true → IsFirstAcceptable (m ∷ ms) acceptable 1 m
-  here m ms e = record { from_one = omega arith; in_list = omega arith; stands_there = λ d. refl; acceptable_there = e; none_before = λ i d low. absurd (omega (arith, low)) }
+  here m ms e = record {
+    from_one = omega arith;
+    in_list = omega arith;
+    stands_there = λ d. refl;
+    acceptable_there = e;
+    none_before = λ i d low. absurd (omega (arith, low));
+  }
 
   ends : (place : ℕ) (ms : List Move) → EndsFrom place ms (scan_from place acceptable rest ms)
   ends place [] = go (nat_lt rest place) refl
@@ -58,7 +67,8 @@ module _ (acceptable : Move → Bool) (rest : ℕ) where
       at_first e true low = (1, omega arith, here m ms e, Prim.grind arith)
       at_first e false low = inl (1, m, here m ms e, Prim.grind arith)
 
-      go : EndsFrom (suc place) ms (scan_from (suc place) acceptable rest ms) → (c : Bool) → acceptable m ≡ c → EndsFrom place (m ∷ ms) (cond c (cond (nat_le (suc place) rest) (Accepted (suc place) m) Cut) (scan_from (suc place) acceptable rest ms))
+      go : EndsFrom (suc place) ms (scan_from (suc place) acceptable rest ms) → (c : Bool) → acceptable m ≡ c
+          → EndsFrom place (m ∷ ms) (cond c (cond (nat_le (suc place) rest) (Accepted (suc place) m) Cut) (scan_from (suc place) acceptable rest ms))
       go later true e = at_first e (nat_le (suc place) rest) refl
       go later false e = passed place m ms e (scan_from (suc place) acceptable rest ms) later
 

@@ -25,19 +25,23 @@ module _ (model : Model) (limit : Limit) where
   enough scans state e = rw (e, descent_from) refl
 
   scanned : (scans : ℕ) (state : SearchState) → (state.found == limit.solutions) ≡ false
-      → descent_from model limit (suc scans) state ≡ descended model limit (descent_from model limit scans) state (scan (moves model state.lists) (makes_cheaper model state.lists) (limit.tries - state.used))
+      → descent_from model limit (suc scans) state ≡ descended model limit (descent_from model limit scans)
+      state (scan (moves model state.lists) (makes_cheaper model state.lists) (limit.tries - state.used))
   unfolding descent_from
   scanned scans state e = rw (e, descent_from) refl
 
   same_descended : (again other : SearchState → Outcome) (scans : ℕ) → ((next : SearchState) → limit.tries - next.used < scans → again next ≡ other next)
-      → (state : SearchState) → limit.tries - state.used < suc scans → (acceptable : Move → Bool) (s : Scan) → EndsAs (moves model state.lists) acceptable (limit.tries - state.used) s
+      → (state : SearchState) → limit.tries - state.used < suc scans → (acceptable : Move → Bool) (s : Scan)
+      → EndsAs (moves model state.lists) acceptable (limit.tries - state.used) s
       → descended model limit again state s ≡ descended model limit other state s
   same_descended again other scans same state few acceptable (Accepted n mv) h =
-      ap (with_event (event_at model (accepted model state n mv) kind.Move)) (same (accepted model state n mv) (let one = h.0.from_one in let low = h.1 in omega (arith, one, low, few)))
+      ap (with_event (event_at model (accepted model state n mv) kind.Move))
+      (same (accepted model state n mv) (let one = h.0.from_one in let low = h.1 in omega (arith, one, low, few)))
   same_descended again other scans same state few acceptable (Complete n) h = refl
   same_descended again other scans same state few acceptable Cut h = refl
 
-  descent_bound : (scans more : ℕ) (state : SearchState) → limit.tries - state.used < scans → descent_from model limit (scans + more) state ≡ descent_from model limit scans state
+  descent_bound : (scans more : ℕ) (state : SearchState) → limit.tries - state.used < scans
+      → descent_from model limit (scans + more) state ≡ descent_from model limit scans state
   descent_bound zero more state few = absurd (omega (arith, few))
   descent_bound (suc scans) more state few =
       let e : suc scans + more ≡ suc (scans + more) = omega arith in
@@ -48,13 +52,15 @@ module _ (model : Model) (limit : Limit) where
       go same true e = enough (scans + more) state e ∙ sym (enough scans state e)
       go same false e = scanned (scans + more) state e
           ∙ (same_descended (descent_from model limit (scans + more)) (descent_from model limit scans) scans same state few (makes_cheaper model state.lists)
-          (scan (moves model state.lists) (makes_cheaper model state.lists) (limit.tries - state.used)) (scan_ends (moves model state.lists) (makes_cheaper model state.lists) (limit.tries - state.used))
+          (scan (moves model state.lists) (makes_cheaper model state.lists) (limit.tries - state.used))
+          (scan_ends (moves model state.lists) (makes_cheaper model state.lists) (limit.tries - state.used))
           ∙ sym (scanned scans state e))
 
   -- ---- guided local search
 
   module _ (lambda : Lambda) where
-    guided_enough : (scans : ℕ) (penalties : Penalties) (state : SearchState) → (state.found == limit.solutions) ≡ true → guided_from model limit lambda (suc scans) penalties state ≡ ended state Solutions
+    guided_enough : (scans : ℕ) (penalties : Penalties) (state : SearchState) → (state.found == limit.solutions) ≡ true
+        → guided_from model limit lambda (suc scans) penalties state ≡ ended state Solutions
     unfolding guided_from
     guided_enough scans penalties state e = rw (e, guided_from) refl
 
@@ -62,7 +68,8 @@ module _ (model : Model) (limit : Limit) where
     scan_of penalties state = scan (moves model state.lists) (improves_augmented model lambda penalties state.lists) (limit.tries - state.used)
 
     guided_scanned : (scans : ℕ) (penalties : Penalties) (state : SearchState) → (state.found == limit.solutions) ≡ false
-        → guided_from model limit lambda (suc scans) penalties state ≡ guided_on model limit (guided_from model limit lambda scans) penalties state (scan_of penalties state)
+        → guided_from model limit lambda (suc scans) penalties state
+        ≡ guided_on model limit (guided_from model limit lambda scans) penalties state (scan_of penalties state)
     unfolding guided_from
     guided_scanned scans penalties state e = rw (e, guided_from) refl
 
@@ -71,7 +78,8 @@ module _ (model : Model) (limit : Limit) where
     at_end again penalties state n e = rw (e, guided_on) refl
 
     not_at_end : (again : Penalties → SearchState → Outcome) (penalties : Penalties) (state : SearchState) (n : ℕ) → is_at_end model state n ≡ false
-        → guided_on model limit again penalties state (Complete n) ≡ with_event (event_at model (tried state n) kind.Round) (again (raised model penalties state.lists) (tried state n))
+        → guided_on model limit again penalties state (Complete n)
+        ≡ with_event (event_at model (tried state n) kind.Round) (again (raised model penalties state.lists) (tried state n))
     not_at_end again penalties state n e = rw (e, guided_on) refl
 
     some_moves : (state : SearchState) (n : ℕ) → is_at_end model state n ≡ false → 1 ≤ n
@@ -81,32 +89,42 @@ module _ (model : Model) (limit : Limit) where
         no e = Prim.cc
     some_moves state (suc n) e = omega arith
 
-    same_guided : (again other : Penalties → SearchState → Outcome) (scans : ℕ) → ((penalties : Penalties) (next : SearchState) → limit.tries - next.used < scans → again penalties next ≡ other penalties next)
-        → (penalties : Penalties) (state : SearchState) → limit.tries - state.used < suc scans → (acceptable : Move → Bool) (s : Scan) → EndsAs (moves model state.lists) acceptable (limit.tries - state.used) s
+    same_guided : (again other : Penalties → SearchState → Outcome) (scans : ℕ)
+        → ((penalties : Penalties) (next : SearchState) → limit.tries - next.used < scans → again penalties next ≡ other penalties next)
+        → (penalties : Penalties) (state : SearchState) → limit.tries - state.used < suc scans
+        → (acceptable : Move → Bool) (s : Scan) → EndsAs (moves model state.lists) acceptable (limit.tries - state.used) s
         → guided_on model limit again penalties state s ≡ guided_on model limit other penalties state s
     same_guided again other scans same penalties state few acceptable (Accepted n mv) h =
-        ap (with_event (event_at model (accepted model state n mv) kind.Move)) (same penalties (accepted model state n mv) (let one = h.0.from_one in let low = h.1 in omega (arith, one, low, few)))
+        ap (with_event (event_at model (accepted model state n mv) kind.Move))
+        (same penalties (accepted model state n mv) (let one = h.0.from_one in let low = h.1 in omega (arith, one, low, few)))
     same_guided again other scans same penalties state few acceptable (Complete n) h = go (is_at_end model state n) refl
       where
-        go : (b : Bool) → is_at_end model state n ≡ b → guided_on model limit again penalties state (Complete n) ≡ guided_on model limit other penalties state (Complete n)
+        go : (b : Bool) → is_at_end model state n ≡ b
+            → guided_on model limit again penalties state (Complete n) ≡ guided_on model limit other penalties state (Complete n)
         go true e = at_end again penalties state n e ∙ sym (at_end other penalties state n e)
         go false e = not_at_end again penalties state n e
-            ∙ (ap (with_event (event_at model (tried state n) kind.Round)) (same (raised model penalties state.lists) (tried state n) (let one = some_moves state n e in let low = h.2 in omega (arith, one, low, few)))
+            ∙ (ap (with_event (event_at model (tried state n) kind.Round))
+            (same (raised model penalties state.lists) (tried state n) (let one = some_moves state n e in let low = h.2 in omega (arith, one, low, few)))
             ∙ sym (not_at_end other penalties state n e))
     same_guided again other scans same penalties state few acceptable Cut h = refl
 
-    guided_bound : (scans more : ℕ) (penalties : Penalties) (state : SearchState) → limit.tries - state.used < scans → guided_from model limit lambda (scans + more) penalties state ≡ guided_from model limit lambda scans penalties state
+    guided_bound : (scans more : ℕ) (penalties : Penalties) (state : SearchState) → limit.tries - state.used < scans
+        → guided_from model limit lambda (scans + more) penalties state ≡ guided_from model limit lambda scans penalties state
     guided_bound zero more penalties state few = absurd (omega (arith, few))
     guided_bound (suc scans) more penalties state few =
         let e : suc scans + more ≡ suc (scans + more) = omega arith in
-        ap (λ n. guided_from model limit lambda n penalties state) e ∙ go (λ next_penalties next h. guided_bound scans more next_penalties next h) (state.found == limit.solutions) refl
+        ap (λ n. guided_from model limit lambda n penalties state) e
+        ∙ go (λ next_penalties next h. guided_bound scans more next_penalties next h) (state.found == limit.solutions) refl
       where
-        go : ((next_penalties : Penalties) (next : SearchState) → limit.tries - next.used < scans → guided_from model limit lambda (scans + more) next_penalties next ≡ guided_from model limit lambda scans next_penalties next)
-            → (b : Bool) → (state.found == limit.solutions) ≡ b → guided_from model limit lambda (suc (scans + more)) penalties state ≡ guided_from model limit lambda (suc scans) penalties state
+        go : ((next_penalties : Penalties) (next : SearchState) → limit.tries - next.used < scans
+            → guided_from model limit lambda (scans + more) next_penalties next ≡ guided_from model limit lambda scans next_penalties next)
+            → (b : Bool) → (state.found == limit.solutions) ≡ b
+            → guided_from model limit lambda (suc (scans + more)) penalties state ≡ guided_from model limit lambda (suc scans) penalties state
         go same true e = guided_enough (scans + more) penalties state e ∙ sym (guided_enough scans penalties state e)
         go same false e = guided_scanned (scans + more) penalties state e
             ∙ (same_guided (guided_from model limit lambda (scans + more)) (guided_from model limit lambda scans) scans same penalties state few
-            (improves_augmented model lambda penalties state.lists) (scan_of penalties state) (scan_ends (moves model state.lists) (improves_augmented model lambda penalties state.lists) (limit.tries - state.used))
+            (improves_augmented model lambda penalties state.lists) (scan_of penalties state)
+            (scan_ends (moves model state.lists) (improves_augmented model lambda penalties state.lists) (limit.tries - state.used))
             ∙ sym (guided_scanned scans penalties state e))
 
 pub descent_bound_unmet : DescentBoundUnmet

@@ -9,7 +9,8 @@ use Rattle.vr_model.specs.tables.Numbers.{number_at}
 use Rattle.vr_model.proofs.tables.Tests.{clash, fails}
 use Rattle.vr_model.specs.declared.records.Model.{Model}
 use Rattle.vr_model.specs.declared.records.Evaluator.{Evaluator}
-use Rattle.vr_model.specs.tables.Tables.{no_matrix, no_vehicle, no_dimension, no_evaluator, matrix_at, entry, vehicle_at, dimension_at, evaluator_number, evaluator_of, matrix_part, arc_cost, transit}
+use Rattle.vr_model.specs.tables.Tables.{no_matrix, no_vehicle, no_dimension, no_evaluator, matrix_at, entry, vehicle_at, dimension_at, evaluator_number}
+use Rattle.vr_model.specs.tables.Tables.{evaluator_of, matrix_part, arc_cost, transit}
 use Rattle.vr_model.specs.tables.ModelRules.{is_negative, greatest_entry, is_large}
 use Rattle.vr_model.specs.tables.Limits.{least_value, greatest_cost, greatest_value}
 use Rattle.vr_model.specs.tables.WellFormed.{IsIn, IsEvaluator, IsDimension, IsWellFormed, WherePresent}
@@ -43,7 +44,8 @@ module _ (model : Model) (well : IsWellFormed model) where
   arc_cost_in_range v i j known low next =
       let m = (well.each_vehicle v no_vehicle known).costs_in_range in
       let r = entry_in_range (vehicle_at model v).costs i j m low next in
-      let n : is_negative (arc_cost model v i j) ≡ false = none_at is_negative _ (i * model.nodes + j) (pos 0) (well.costs_not_negative v known) (entry_low (vehicle_at model v).costs i j m low next) in
+      let n : is_negative (arc_cost model v i j) ≡ false = none_at is_negative _ (i * model.nodes + j)
+      (pos 0) (well.costs_not_negative v known) (entry_low (vehicle_at model v).costs i j m low next) in
       record { at_least = omega (arith, ints, n); at_most = r.at_most }
 
   module _ (d v : ℕ) (dimension : d < length model.dimensions) (vehicle : v < length model.vehicles) where
@@ -58,14 +60,17 @@ module _ (model : Model) (well : IsWellFormed model) where
     of_evaluator = of_dimension.each_evaluator (evaluator_number (dimension_at model d) v) no_evaluator evaluator_low
 
     -- what a matrix adds to a transit
-    part_in_range : (matrix : Option ℕ) → WherePresent (λ m. m < length model.matrices) matrix → is_large model matrix ≡ false → (i j : ℕ) → i < model.nodes → j < model.nodes → IsIn least_value greatest_value (matrix_part model matrix i j)
+    part_in_range : (matrix : Option ℕ) → WherePresent (λ m. m < length model.matrices) matrix → is_large model matrix ≡ false
+        → (i j : ℕ) → i < model.nodes → j < model.nodes → IsIn least_value greatest_value (matrix_part model matrix i j)
     part_in_range None known small i j low next = record { at_least = omega (arith, ints); at_most = omega (arith, ints) }
     part_in_range (Some m) known small i j low next =
-        let n : int_lt greatest_entry (entry model m i j) ≡ false = none_at (int_lt greatest_entry) _ (i * model.nodes + j) (pos 0) small (entry_low m i j known low next) in
+        let n : int_lt greatest_entry (entry model m i j) ≡ false = none_at (int_lt greatest_entry)
+        _ (i * model.nodes + j) (pos 0) small (entry_low m i j known low next) in
         record { at_least = (entry_in_range m i j known low next).at_least; at_most = omega (arith, ints, n) }
 
     -- what a value adds to a transit
-    value_in_range : (evaluator : Evaluator) → IsEvaluator model evaluator → (i : ℕ) → i < model.nodes → IsIn least_value greatest_value (number_at evaluator.values i)
+    value_in_range : (evaluator : Evaluator) → IsEvaluator model evaluator → (i : ℕ)
+        → i < model.nodes → IsIn least_value greatest_value (number_at evaluator.values i)
     value_in_range evaluator is i low = go is.values_of_all
       where
         go : (length evaluator.values ≡ 0) ⊎ (length evaluator.values ≡ model.nodes) → IsIn least_value greatest_value (number_at evaluator.values i)

@@ -1,5 +1,6 @@
 -- Members of lists that are made by ranges, filters and maps, nested in one another.
-use Rattle.std.proofs.Common.{◌≡◌, ℕ, zero, suc, ◌+◌, ◌-◌, ◌<◌, ◌≤◌, Bool, true, false, cond, List, [], ◌∷◌, ◌++◌, length, map, refl, sym, ◌∙◌, ap, subst, inl, inr, arith, ◌⊎◌}
+use Rattle.std.proofs.Common.{◌≡◌, ℕ, zero, suc, ◌+◌, ◌-◌, ◌<◌, ◌≤◌, Bool, true, false, cond, List, [], ◌∷◌, ◌++◌, length, map, refl, sym, ◌∙◌, ap, subst, inl}
+use Rattle.std.proofs.Common.{inr, arith, ◌⊎◌}
 use Rattle.std.specs.Prelude.{IsTrue, filter, slice_index_or}
 use Rattle.std.specs.List.{Contains, range_with_len}
 use Rattle.std.proofs.lemmas.Bool.{cases_lt}
@@ -101,7 +102,8 @@ of_range a (suc n) k (inr h) = let r = of_range (a + 1) n k h in (omega (arith, 
 
 pub to_range : (a n k : ℕ) → a ≤ k → k < a + n → In (range_with_len a n) k
 to_range a zero k low high = absurd (omega (arith, low, high))
-to_range a (suc n) k low high = elim (cases_lt a k) [ inl l ↦ inr (to_range (a + 1) n k (omega (arith, l)) (omega (arith, high))) | inr l ↦ inl (omega (arith, l, low)) ]
+to_range a (suc n) k low high =
+    elim (cases_lt a k) [ inl l ↦ inr (to_range (a + 1) n k (omega (arith, l)) (omega (arith, high))) | inr l ↦ inl (omega (arith, l, low)) ]
 
 pub of_below : (n k : ℕ) → In (below n) k → k < n
 of_below n k h = let r = (of_range 0 n k h).1 in omega (arith, r)

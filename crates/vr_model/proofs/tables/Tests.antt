@@ -118,7 +118,10 @@ pub none-filtered : {A : Type 0} (p : A → Bool) (xs : List A) → filter (λ x
 none-filtered p [] e = refl
 none-filtered p (x ∷ xs) e = by p x xs (p x) refl e (none-filtered p xs)
   where
-    by : {A : Type 0} (p : A → Bool) (x : A) (xs : List A) (b : Bool) → p x ≡ b → cond (not (p x)) (x ∷ filter (λ x. not (p x)) xs) (filter (λ x. not (p x)) xs) ≡ []
+    by : {A : Type 0} (p : A → Bool) (x : A) (xs : List A) (b : Bool) → p x ≡ b
+        → cond (not (p x)) (x ∷ filter (λ x. not (p x)) xs) (filter (λ x. not (p x)) xs) ≡ []
         → (filter (λ x. not (p x)) xs ≡ [] → list_all p xs ≡ true) → (p x && list_all p xs) ≡ true
-    by p x xs true h e rest = ap (λ b. b && list_all p xs) h ∙ rest (sym (ap (λ b. cond (not b) (x ∷ filter (λ x. not (p x)) xs) (filter (λ x. not (p x)) xs)) h) ∙ e)
-    by p x xs false h e rest = absurd (nil-not-cons x (filter (λ x. not (p x)) xs) (sym (ap (λ b. cond (not b) (x ∷ filter (λ x. not (p x)) xs) (filter (λ x. not (p x)) xs)) h) ∙ e))
+    by p x xs true h e rest = ap (λ b. b && list_all p xs) h
+        ∙ rest (sym (ap (λ b. cond (not b) (x ∷ filter (λ x. not (p x)) xs) (filter (λ x. not (p x)) xs)) h) ∙ e)
+    by p x xs false h e rest =
+        absurd (nil-not-cons x (filter (λ x. not (p x)) xs) (sym (ap (λ b. cond (not b) (x ∷ filter (λ x. not (p x)) xs) (filter (λ x. not (p x)) xs)) h) ∙ e))

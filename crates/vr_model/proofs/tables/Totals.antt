@@ -30,17 +30,20 @@ total_by-less f g [] = omega (arith, ints)
 total_by-less f g (x ∷ xs) = omega (arith, ints, total_by-less f g xs)
 
 -- two sums in the other order
-pub total_by-turned : {A B : Type 0} (f : A → B → ℤ) (xs : List A) (ys : List B) → total_by (λ a. total_by (f a) ys) xs ≡ total_by (λ b. total_by (λ a. f a b) xs) ys
+pub total_by-turned : {A B : Type 0} (f : A → B → ℤ) (xs : List A) (ys : List B)
+    → total_by (λ a. total_by (f a) ys) xs ≡ total_by (λ b. total_by (λ a. f a b) xs) ys
 total_by-turned f [] ys = sym (total_by-nothing ys)
 total_by-turned f (x ∷ xs) ys = ap (λ s. total_by (f x) ys +ℤ s) (total_by-turned f xs ys) ∙ sym (total_by-plus (f x) (λ b. total_by (λ a. f a b) xs) ys)
 
 -- a sum over the entries that fail a test is one over all of them
-pub total_by-failing : {A : Type 0} (f : A → ℤ) (p : A → Bool) (xs : List A) → total_by f (filter (λ x. not (p x)) xs) ≡ total_by (λ x. cond (p x) (pos 0) (f x)) xs
+pub total_by-failing : {A : Type 0} (f : A → ℤ) (p : A → Bool) (xs : List A)
+    → total_by f (filter (λ x. not (p x)) xs) ≡ total_by (λ x. cond (p x) (pos 0) (f x)) xs
 total_by-failing f p [] = refl
 total_by-failing {A} f p (x ∷ xs) = go (p x) (total_by-failing f p xs)
   where
     go : (b : Bool) → total_by f (filter (λ x. not (p x)) xs) ≡ total_by (λ x. cond (p x) (pos 0) (f x)) xs
-        → total_by f (cond (not b) (x ∷ filter (λ x. not (p x)) xs) (filter (λ x. not (p x)) xs)) ≡ cond b (pos 0) (f x) +ℤ total_by (λ x. cond (p x) (pos 0) (f x)) xs
+        → total_by f (cond (not b) (x ∷ filter (λ x. not (p x)) xs) (filter (λ x. not (p x)) xs))
+        ≡ cond b (pos 0) (f x) +ℤ total_by (λ x. cond (p x) (pos 0) (f x)) xs
     go true i = omega (arith, ints, i)
     go false i = omega (arith, ints, i)
 
@@ -54,7 +57,8 @@ total_by-chosen f true n = omega (arith, ints)
 total_by-chosen f false n = refl
 
 -- the same over the numbers that pass a test
-pub total_by-filter-more : (f : ℕ → ℤ) (p : ℕ → Bool) (n : ℕ) → total_by f (filter p (below (n + 1))) ≡ total_by f (filter p (below n)) +ℤ cond (p n) (f n) (pos 0)
+pub total_by-filter-more : (f : ℕ → ℤ) (p : ℕ → Bool) (n : ℕ)
+    → total_by f (filter p (below (n + 1))) ≡ total_by f (filter p (below n)) +ℤ cond (p n) (f n) (pos 0)
 total_by-filter-more f p n =
     ap (λ ns. total_by f (filter p ns)) (below-more n) ∙ ap (total_by f) (filter-append p (below n) (n ∷ []))
     ∙ total_by-append f (filter p (below n)) (cond (p n) (n ∷ []) []) ∙ ap (λ z. total_by f (filter p (below n)) +ℤ z) (total_by-chosen f (p n) n)

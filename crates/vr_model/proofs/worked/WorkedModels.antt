@@ -19,7 +19,17 @@ use Rattle.vr_model.specs.declared.search.Lambda.{Lambda}
 
 -- what a model asks of the search that names nothing
 abbrev pub default_search : SearchRow
-default_search = record { first = PathCheapestArc; improve = GreedyDescent; tries = 100000; solutions = 1000000000; p = pos 1; q = pos 10; neighbourhoods = all_neighbourhoods; cut = 10; tenure = 10 }
+default_search = record {
+  first = PathCheapestArc;
+  improve = GreedyDescent;
+  tries = 100000;
+  solutions = 1000000000;
+  p = pos 1;
+  q = pos 10;
+  neighbourhoods = all_neighbourhoods;
+  cut = 10;
+  tenure = 10;
+}
 
 abbrev pub default_limit : Limit
 default_limit = record { tries = 100000; solutions = 1000000000 }
@@ -33,7 +43,16 @@ car = record { start = 0; «end» = 0; costs = 0; fixed = pos 0; policy = Any; s
 
 -- a model of one matrix, some vehicles and dimensions
 abbrev pub model_of : ℕ → List ℤ → List Vehicle → List Dimension → Model
-model_of n entries vehicles dimensions = record { nodes = n; matrices = record { entries = entries } ∷ []; vehicles = vehicles; dimensions = dimensions; groups = []; pairs = []; allowed = []; search = default_search }
+model_of n entries vehicles dimensions = record {
+  nodes = n;
+  matrices = record { entries = entries } ∷ [];
+  vehicles = vehicles;
+  dimensions = dimensions;
+  groups = [];
+  pairs = [];
+  allowed = [];
+  search = default_search;
+}
 
 -- a dimension by that matrix for one vehicle and n nodes, with no rows
 abbrev pub time : ℕ → Dimension
@@ -86,13 +105,17 @@ far_entries = pos 0 ∷ pos 1 ∷ pos 1 ∷ pos 1 ∷ pos 0 ∷ pos 9 ∷ pos 1 
 -- three nodes at equal distances and two vehicles, with a cost for the time from the first start to the last end
 abbrev pub two_cars : Model
 two_cars = model_of 3 (pos 0 ∷ pos 5 ∷ pos 5 ∷ pos 5 ∷ pos 0 ∷ pos 5 ∷ pos 5 ∷ pos 5 ∷ pos 0 ∷ []) (car ∷ car ∷ [])
-    (record (time 3) { fix_start = true; global_span_cost = pos 10; vehicle_evaluators = 0 ∷ 0 ∷ []; capacities = pos 100 ∷ pos 100 ∷ []; span_costs = pos 0 ∷ pos 0 ∷ [] } ∷ [])
+    (record (time 3)
+    { fix_start = true; global_span_cost = pos 10; vehicle_evaluators = 0 ∷ 0 ∷ []; capacities = pos 100 ∷ pos 100 ∷ []; span_costs = pos 0 ∷ pos 0 ∷ [] }
+    ∷ [])
 
 -- five nodes at distance 1, with the pairs 1 to 2 and 3 to 4
 abbrev pub policed : Policy → Model
-policed policy = record (model_of 5 (pos 0 ∷ pos 1 ∷ pos 1 ∷ pos 1 ∷ pos 1 ∷ pos 1 ∷ pos 0 ∷ pos 1 ∷ pos 1 ∷ pos 1 ∷ pos 1 ∷ pos 1 ∷ pos 0 ∷ pos 1 ∷ pos 1 ∷ pos 1 ∷ pos 1 ∷ pos 1 ∷ pos 0 ∷ pos 1 ∷ pos 1 ∷ pos 1 ∷ pos 1 ∷ pos 1 ∷ pos 0 ∷ []) (record car { policy = policy } ∷ []) []) {
-  pairs = record { pickup = 1; delivery = 2 } ∷ record { pickup = 3; delivery = 4 } ∷ [];
-}
+policed policy = record (model_of 5
+    (pos 0 ∷ pos 1 ∷ pos 1 ∷ pos 1 ∷ pos 1 ∷ pos 1 ∷ pos 0 ∷ pos 1 ∷ pos 1 ∷ pos 1 ∷ pos 1 ∷ pos 1 ∷ pos 0 ∷ pos 1 ∷ pos 1 ∷ pos 1
+    ∷ pos 1 ∷ pos 1 ∷ pos 0 ∷ pos 1 ∷ pos 1 ∷ pos 1 ∷ pos 1 ∷ pos 1 ∷ pos 0 ∷ []) (record car { policy = policy } ∷ []) []) {
+      pairs = record { pickup = 1; delivery = 2 } ∷ record { pickup = 3; delivery = 4 } ∷ [];
+    }
 
 -- node 1 forbids 5..=8, and a vehicle may wait 3 on an arc
 abbrev pub gap_row : StopRow

@@ -13,7 +13,8 @@ use Rattle.vr_model.specs.declared.records.Policy.TheVariants.{Any, Lifo, Fifo}
 use Rattle.vr_model.specs.declared.records.End.TheVariants.{Optimum, Tries}
 use Rattle.vr_model.specs.declared.search.Kind.TheVariants as kind
 use Rattle.vr_model.specs.declared.neighbours.Move.TheVariants.{TwoOpt, OrOpt, Relocate, Exchange, MakeInactive}
-use Rattle.vr_model.proofs.worked.WorkedModels.{car, model_of, default_limit, default_lambda, three, by, optional, back_pair, optional_pair, far_entries, two_cars, policed}
+use Rattle.vr_model.proofs.worked.WorkedModels.{car, model_of, default_limit, default_lambda, three, by, optional, back_pair, optional_pair, far_entries}
+use Rattle.vr_model.proofs.worked.WorkedModels.{two_cars, policed}
 
 -- ---- first solutions
 
@@ -62,7 +63,8 @@ far_with_two = refl
 -- ---- valid lists
 
 -- a visit twice in one list, the depot, a number that is no node, and a list too many
-no_lists : map (is_valid three) (((1 ∷ 1 ∷ 2 ∷ []) ∷ []) ∷ ((1 ∷ 2 ∷ 0 ∷ []) ∷ []) ∷ ((1 ∷ 2 ∷ 77 ∷ []) ∷ []) ∷ ((1 ∷ []) ∷ (2 ∷ []) ∷ []) ∷ []) ≡ false ∷ false ∷ false ∷ false ∷ []
+no_lists : map (is_valid three) (((1 ∷ 1 ∷ 2 ∷ []) ∷ []) ∷ ((1 ∷ 2 ∷ 0 ∷ []) ∷ []) ∷ ((1 ∷ 2 ∷ 77 ∷ []) ∷ []) ∷ ((1 ∷ []) ∷ (2 ∷ []) ∷ []) ∷ [])
+    ≡ false ∷ false ∷ false ∷ false ∷ []
 unfolding is_valid is_open
 no_lists = refl
 
@@ -91,7 +93,8 @@ unfolding moves_over
 three_moves = refl
 
 -- how many moves each neighbourhood has, with a pair in the list
-pair_moves : map (λ neighbourhood. length (moves_in optional_pair ((1 ∷ 2 ∷ []) ∷ []) neighbourhood)) all_neighbourhoods ≡ 1 ∷ 2 ∷ 0 ∷ 1 ∷ 0 ∷ 0 ∷ 0 ∷ 1 ∷ 0 ∷ 2 ∷ 0 ∷ []
+pair_moves : map (λ neighbourhood. length (moves_in optional_pair ((1 ∷ 2 ∷ []) ∷ []) neighbourhood)) all_neighbourhoods
+    ≡ 1 ∷ 2 ∷ 0 ∷ 1 ∷ 0 ∷ 0 ∷ 0 ∷ 1 ∷ 0 ∷ 2 ∷ 0 ∷ []
 pair_moves = refl
 
 -- ---- searches
@@ -121,8 +124,10 @@ guided_twenty : guided three ((1 ∷ 2 ∷ []) ∷ []) (record default_limit { t
   last = (1 ∷ 2 ∷ []) ∷ [];
   best = (1 ∷ 2 ∷ []) ∷ [];
   report = record { tries = 20; solutions = 3; «end» = Tries };
-  events = record { tries = 0; kind = kind.First; cost = pos 18 } ∷ record { tries = 6; kind = kind.Round; cost = pos 18 } ∷ record { tries = 7; kind = kind.Move; cost = pos 18 }
-      ∷ record { tries = 13; kind = kind.Round; cost = pos 18 } ∷ record { tries = 19; kind = kind.Round; cost = pos 18 } ∷ record { tries = 20; kind = kind.Move; cost = pos 18 } ∷ [];
+  events = record { tries = 0; kind = kind.First; cost = pos 18 }
+      ∷ record { tries = 6; kind = kind.Round; cost = pos 18 } ∷ record { tries = 7; kind = kind.Move; cost = pos 18 }
+      ∷ record { tries = 13; kind = kind.Round; cost = pos 18 } ∷ record { tries = 19; kind = kind.Round; cost = pos 18 }
+      ∷ record { tries = 20; kind = kind.Move; cost = pos 18 } ∷ [];
 }
 unfolding guided guided_from augmented moves_over is_valid is_open cost
 guided_twenty = refl
@@ -133,7 +138,10 @@ abbrev waiting : List Plan
 waiting = record { cumuls = pos 0 ∷ pos 5 ∷ pos 10 ∷ []; slacks = pos 0 ∷ pos 0 ∷ []; breaks = [] } ∷ []
 
 -- both nodes on one vehicle: arcs 15, and 10 times 15
-one_used : parts_at two_cars (record { lists = (1 ∷ 2 ∷ []) ∷ [] ∷ []; plans = (record { cumuls = pos 0 ∷ pos 5 ∷ pos 10 ∷ pos 15 ∷ []; slacks = pos 0 ∷ pos 0 ∷ pos 0 ∷ []; breaks = [] } ∷ []) ∷ [] ∷ [] })
+one_used : parts_at two_cars (record {
+  lists = (1 ∷ 2 ∷ []) ∷ [] ∷ [];
+  plans = (record { cumuls = pos 0 ∷ pos 5 ∷ pos 10 ∷ pos 15 ∷ []; slacks = pos 0 ∷ pos 0 ∷ pos 0 ∷ []; breaks = [] } ∷ []) ∷ [] ∷ [];
+})
     ≡ record { arcs = pos 15; fixed = pos 0; global = pos 150; penalty = pos 0; soft = pos 0; span = pos 0 }
 one_used = refl
 

@@ -8,7 +8,8 @@ use Rattle.vr_model.specs.tables.Numbers.{within, horizon}
 use Rattle.vr_model.specs.tables.Tables.{dimension_at}
 use Rattle.vr_model.specs.tables.ModelRules.{cannot_save, has_negative_cost, has_large_entry, goes_back}
 use Rattle.vr_model.specs.tables.Limits.{least_value, greatest_cost, greatest_value, greatest_coefficient, most_dimensions, most_nodes}
-use Rattle.vr_model.specs.tables.WellFormed.{are_distinct_names, IsIn, IsMatrix, IsVehicle, IsEvaluator, IsBreak, AreBreaks, IsDimension, IsSearch, IsWellFormed}
+use Rattle.vr_model.specs.tables.WellFormed.{are_distinct_names, IsIn, IsMatrix, IsVehicle, IsEvaluator, IsBreak, AreBreaks, IsDimension, IsSearch}
+use Rattle.vr_model.specs.tables.WellFormed.{IsWellFormed}
 use Rattle.vr_model.specs.declared.records.Dimension.{Dimension}
 use Rattle.vr_model.specs.deciding.Testing.{within_is}
 use Rattle.vr_model.proofs.worked.WorkedModels.{default_search, car, model_of, rest_row, three_entries, three, rests_entries, rests_time, rests}
@@ -44,9 +45,11 @@ default_is_search = record {
 -- a model of one matrix, one car, and no groups, pairs or rows of allowed vehicles is well-formed where its matrix and
 -- its dimensions are
 one_car : (n : ℕ) (entries : List ℤ) (dimensions : List Dimension) → (1 ≤ n) × (n ≤ most_nodes) → IsMatrix n (record { entries = entries })
-    → length dimensions ≤ most_dimensions → All (IsDimension (model_of n entries (car ∷ []) dimensions)) dimensions → IsTrue (are_distinct_names (map (λ dimension. dimension.name) dimensions))
+    → length dimensions ≤ most_dimensions → All (IsDimension (model_of n entries (car ∷ []) dimensions)) dimensions
+    → IsTrue (are_distinct_names (map (λ dimension. dimension.name) dimensions))
     → has_negative_cost (model_of n entries (car ∷ []) dimensions) 0 ≡ false
-    → ((d k : ℕ) → d < length dimensions → k < length (dimension_at (model_of n entries (car ∷ []) dimensions) d).evaluators → has_large_entry (model_of n entries (car ∷ []) dimensions) d k ≡ false)
+    → ((d k : ℕ) → d < length dimensions → k < length (dimension_at (model_of n entries (car ∷ []) dimensions) d).evaluators
+    → has_large_entry (model_of n entries (car ∷ []) dimensions) d k ≡ false)
     → ((d : ℕ) → d < length dimensions → goes_back (model_of n entries (car ∷ []) dimensions) d ≡ false)
     → cannot_save (model_of n entries (car ∷ []) dimensions) ≡ false → IsWellFormed (model_of n entries (car ∷ []) dimensions)
 one_car n entries dimensions nodes matrix few each names cost small forward saves = record {
@@ -90,7 +93,12 @@ rests_is_evaluator = record { matrix_in_range = omega arith; values_of_all = inl
 rest_is_break : AreBreaks rest_row
 rest_is_break = record {
   number_of_rows = record { at_least = omega arith; at_most = omega arith };
-  each_row = of_one IsBreak _ (record { from_in_range = omega (arith, ints); in_order = omega (arith, ints); to_in_range = omega (arith, ints); duration_in_range = one_in_range _ _ _ refl });
+  each_row = of_one IsBreak _ (record {
+    from_in_range = omega (arith, ints);
+    in_order = omega (arith, ints);
+    to_in_range = omega (arith, ints);
+    duration_in_range = one_in_range _ _ _ refl;
+  });
 }
 
 rests_is_dimension : IsDimension rests rests_time
@@ -119,7 +127,8 @@ rests_is_dimension = record {
 
 rests_well_formed : IsWellFormed rests
 rests_well_formed =
-    one_car 2 rests_entries (rests_time ∷ []) (omega arith, omega arith) (record { square = refl; entries_in_range = in_range least_value greatest_cost rests_entries refl })
+    one_car 2 rests_entries (rests_time ∷ []) (omega arith, omega arith)
+    (record { square = refl; entries_in_range = in_range least_value greatest_cost rests_entries refl })
     (omega arith) (of_one (IsDimension rests) rests_time rests_is_dimension) refl refl entries transits refl
   where
     entries : (d k : ℕ) → d < 1 → k < length (dimension_at rests d).evaluators → has_large_entry rests d k ≡ false

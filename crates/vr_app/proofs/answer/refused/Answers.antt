@@ -3,4 +3,6 @@ use Rattle.vr_app.proofs.ReplyLemmas.{IsPrintable, refused-printable}
 use Rattle.vr_app.proofs.answer.refused.Goals as goal
 
 pub answer_of_tree-requires : goal.answer_of_tree-requires
-answer_of_tree-requires c = let p = subst IsPrintable (sym c.in_ok-tree.ensures) (refused-printable c.args.fault.now) in record { whole = p.whole; nested = p.nested }
+answer_of_tree-requires c =
+    let p = subst IsPrintable (sym c.in_ok-tree.ensures) (refused-printable c.args.fault.now) in
+    record { whole = p.whole; nested = p.nested }

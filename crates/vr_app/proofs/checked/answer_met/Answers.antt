@@ -10,4 +10,6 @@ pub answer_of_tree-requires : goal.answer_of_tree-requires
 answer_of_tree-requires c = let p = subst IsPrintable (sym c.in_ok-tree-in-Check.ensures) (met-printable _) in record { whole = p.whole; nested = p.nested }
 
 pub answer_of_tree-requires-in-Spans : goal.answer_of_tree-requires-in-Spans
-answer_of_tree-requires-in-Spans c = let p = subst IsPrintable (sym c.in_ok-tree-in-Spans.ensures) (spans_of-printable _) in record { whole = p.whole; nested = p.nested }
+answer_of_tree-requires-in-Spans c =
+    let p = subst IsPrintable (sym c.in_ok-tree-in-Spans.ensures) (spans_of-printable _) in
+    record { whole = p.whole; nested = p.nested }

@@ -25,7 +25,8 @@ search_unwatched-requires-clause-first_cost c =
 pub summarised-requires : goal.summarised-requires
 summarised-requires c =
     let model = c.args.lookups.now.closed.model.now in
-    let sound = improved-sound model.search.improve model c.args.first.lists c.args.lookups.now.closed.well_formed (first_lists-valid model c.args.first.lists c.requires.first) in
+    let sound = improved-sound model.search.improve model c.args.first.lists
+    c.args.lookups.now.closed.well_formed (first_lists-valid model c.args.first.lists c.requires.first) in
     record { valid = ap (is_valid model) c.in_ok-best.ensures.ends.best_is ∙ sound.valid }
 
 pub returns-clause-reply : goal.returns-clause-reply

@@ -15,10 +15,13 @@ of_named {A} {E} lists m answer is h =
     subst P (sym is) h
 
 pub returns-in-PathCheapestArc-clause-lists : goal.returns-in-PathCheapestArc-clause-lists
-returns-in-PathCheapestArc-clause-lists c = of_named (λ routes. routes.lists) c.args.lookups.now.closed.model.now c.built_over.result c.in-PathCheapestArc.is c.built_over.ensures.lists
+returns-in-PathCheapestArc-clause-lists c =
+    of_named (λ routes. routes.lists) c.args.lookups.now.closed.model.now c.built_over.result c.in-PathCheapestArc.is c.built_over.ensures.lists
 
 pub returns-in-ParallelCheapestInsertion-clause-lists : goal.returns-in-ParallelCheapestInsertion-clause-lists
-returns-in-ParallelCheapestInsertion-clause-lists c = of_named (λ routes. routes.lists) c.args.lookups.now.closed.model.now c.inserted_routes.result c.in-ParallelCheapestInsertion.is c.inserted_routes.ensures.lists
+returns-in-ParallelCheapestInsertion-clause-lists c = of_named (λ routes. routes.lists) c.args.lookups.now.closed.model.now
+    c.inserted_routes.result c.in-ParallelCheapestInsertion.is c.inserted_routes.ensures.lists
 
 pub returns-in-Savings-clause-lists : goal.returns-in-Savings-clause-lists
-returns-in-Savings-clause-lists c = of_named (λ routes. routes.lists) c.args.lookups.now.closed.model.now c.built_over-in-Savings.result c.in-Savings.is c.built_over-in-Savings.ensures.savings
+returns-in-Savings-clause-lists c =
+    of_named (λ routes. routes.lists) c.args.lookups.now.closed.model.now c.built_over-in-Savings.result c.in-Savings.is c.built_over-in-Savings.ensures.savings

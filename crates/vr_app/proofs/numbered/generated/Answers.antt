@@ -8,8 +8,11 @@ use Rattle.vr_app.proofs.ReplyLemmas.{IsPrintable}
 use Rattle.vr_app.proofs.numbered.generated.Goals as goal
 
 pub answer_of_tree-requires : goal.answer_of_tree-requires
-answer_of_tree-requires c = let p = subst IsPrintable (sym c.in_ok-tree.ensures) (generated-printable c.args.number) in record { whole = p.whole; nested = p.nested }
+answer_of_tree-requires c =
+    let p = subst IsPrintable (sym c.in_ok-tree.ensures) (generated-printable c.args.number) in
+    record { whole = p.whole; nested = p.nested }
 
 pub returns-clause-reply : goal.returns-clause-reply
 unfolding reply_generated
-returns-clause-reply c = IfOk-weaker c.answer_of_tree.result _ _ (λ answer is. record { status_is = ap status_number is.status_is; text_is = is.text_is ∙ ap text_line c.in_ok-tree.ensures }) c.answer_of_tree.ensures
+returns-clause-reply c = IfOk-weaker c.answer_of_tree.result _ _
+    (λ answer is. record { status_is = ap status_number is.status_is; text_is = is.text_is ∙ ap text_line c.in_ok-tree.ensures }) c.answer_of_tree.ensures

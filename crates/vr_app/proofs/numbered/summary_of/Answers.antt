@@ -17,4 +17,6 @@ returns c = λ found is.
     let total : to_z w64 (of_z w64 c.in_ok-cost.cost) ≡ cost model lists = omega (arith, ints, c.in_ok-cost.ensures, bounds.least, bounds.greatest) in
     let idle : List ℕ → List (List ℕ) → List ℕ = λ nodes lists. filter (λ node. not (is_active lists node)) nodes in
     let dropped = ap length (c.inactive.ensures.value ∙ ap (λ nodes. idle nodes lists) is.ends.visits_are ∙ ap (idle (visits model)) is.ends.best_is) in
-    summary-is c.args.number model found _ _ _ _ _ (total ∙ ap (cost model) is.ends.best_is) (to_z-of_z w64 c.args.first_cost c.ranges.first_cost ∙ is.first_cost_is) dropped (c.used.ensures ∙ ap used is.ends.best_is) (ap (λ report. report.tries) is.ends.report_is)
+    summary-is c.args.number model found _ _ _ _ _ (total ∙ ap (cost model) is.ends.best_is)
+    (to_z-of_z w64 c.args.first_cost c.ranges.first_cost ∙ is.first_cost_is) dropped
+    (c.used.ensures ∙ ap used is.ends.best_is) (ap (λ report. report.tries) is.ends.report_is)

@@ -13,7 +13,8 @@ unwrap-printed-requires c = printed_some c.args.closed.model.now (view c.args.so
 pub routes_tree-requires : goal.routes_tree-requires
 routes_tree-requires c =
     subst (AreScheduled c.args.closed.model.now) (sym c.as_slice.ensures)
-    (printed_scheduled c.args.closed.model.now (view c.args.solution.now) c.args.closed.well_formed c.requires c.unwrap-printed.result (sym c.in_ok-read_printed.ensures ∙ c.unwrap-printed.ensures))
+    (printed_scheduled c.args.closed.model.now (view c.args.solution.now) c.args.closed.well_formed
+    c.requires c.unwrap-printed.result (sym c.in_ok-read_printed.ensures ∙ c.unwrap-printed.ensures))
 
 pub returns : goal.returns
 unfolding spans_of

@@ -10,7 +10,8 @@ returns-clause-no_less c b low high = let past = c.loop-b-test.false in c.loop-b
 
 pub loop-b-preserved : goal.loop-b-preserved
 loop-b-preserved c =
-    let more : ℕ → ℤ = fronts_added c.args.line.now.costs.model.now c.args.line.now.costs.vehicle c.args.line.now.list.now c.args.other.now.costs.vehicle c.args.other.now.list.now c.args.a in
+    let more : ℕ → ℤ = fronts_added c.args.line.now.costs.model.now c.args.line.now.costs.vehicle
+    c.args.line.now.list.now c.args.other.now.costs.vehicle c.args.other.now.list.now c.args.a in
     let i = c.loop-b.invariant in
     let here = c.added.ensures in
     let next = c.inner_behind-inner.ensures in

@@ -8,7 +8,8 @@ use Rattle.vr_arccosts.proofs.fronts.first_front.Given as goal
 
 abbrev pub invariant-loop-b : goal.invariant-loop-b
 invariant-loop-b l = record {
-  no_less : (b : ℕ) → l.asked.from ≤ b → b < l.b → l.asked.bound ≤ℤ fronts_added l.line.costs.model.now l.line.costs.vehicle l.line.list.now l.other.costs.vehicle l.other.list.now l.a b;
+  no_less : (b : ℕ) → l.asked.from ≤ b → b < l.b
+      → l.asked.bound ≤ℤ fronts_added l.line.costs.model.now l.line.costs.vehicle l.line.list.now l.other.costs.vehicle l.other.list.now l.a b;
   inner : l.inner ≡ chain_sum (arc_cost l.line.costs.model.now l.line.costs.vehicle) (take l.b l.other.list.now);
   range : IsChainCost l.inner;
 }

@@ -15,8 +15,10 @@ loop-b-preserved c =
     let other : List ℕ = c.args.other.now.list.now in
     let one = c.swapped.ensures in
     let two = c.swapped-in-loop-b.ensures in
-    let two-is : c.swapped-in-loop-b.result ≡ swap_added model w other c.loop-b.b (slice_index list c.args.a) = two.value ∙ ap (λ (m : Model). swap_added m w other c.loop-b.b (slice_index list c.args.a)) c.requires.same in
-    one-more (λ b. c.args.asked.bound ≤ℤ (swap_added model v list c.args.a (slice_index other b) +ℤ swap_added model w other b (slice_index list c.args.a))) c.args.asked.from c.loop-b.b c.loop-b.invariant
+    let two-is : c.swapped-in-loop-b.result ≡ swap_added model w other c.loop-b.b (slice_index list c.args.a) = two.value
+    ∙ ap (λ (m : Model). swap_added m w other c.loop-b.b (slice_index list c.args.a)) c.requires.same in
+    one-more (λ b. c.args.asked.bound ≤ℤ (swap_added model v list c.args.a (slice_index other b) +ℤ swap_added model w other b (slice_index list c.args.a)))
+    c.args.asked.from c.loop-b.b c.loop-b.invariant
     (let no = c.if-swapped-asked.false in omega (arith, ints, one.value, two-is, one.range.low, one.range.high, two.range.low, two.range.high, no))
 
 pub returns-clause-no_less : goal.returns-clause-no_less

@@ -26,9 +26,13 @@ loop-v-preserved c =
     let v = c.loop-v.v in
     let model : Model = c.args.closed.model.now in
     let lists : List (List ℕ) = c.args.routes.now.lists in
-    let new : IsPutsOf model v (route lists v) c.follow.new.self = record { row = c.follow.ensures.row ∙ c.row_of.ensures ∙ c.list.ensures.value; kept = c.follow.ensures.puts } in
+    let new : IsPutsOf model v (route lists v) c.follow.new.self = record {
+      row = c.follow.ensures.row ∙ c.row_of.ensures ∙ c.list.ensures.value;
+      kept = c.follow.ensures.puts;
+    } in
     let items = c.in_ok-push.ensures.items in
     record {
       many = ap length items ∙ length-append c.loop-v.puts.items (c.follow.new.self ∷ []) ∙ ap (λ n. n + 1) i.many;
-      puts = rows-push (λ u p. IsPutsOf model u (route lists u) p) no_puts c.loop-v.puts.items c.push.new.self.items c.follow.new.self v i.many i.puts new items;
+      puts =
+          rows-push (λ u p. IsPutsOf model u (route lists u) p) no_puts c.loop-v.puts.items c.push.new.self.items c.follow.new.self v i.many i.puts new items;
     }

@@ -9,11 +9,13 @@ use Rattle.vr_printed.proofs.Shaped.{printed_shaped}
 use Rattle.vr_check.proofs.checking.check.Goals as goal
 
 pub lists_finding-requires-clause-shaped : goal.lists_finding-requires-clause-shaped
-lists_finding-requires-clause-shaped c = printed_shaped c.args.model.now (view c.args.solution.now) c.in-Some.printed (sym c.in_ok-read_printed.ensures ∙ c.in-Some.is)
+lists_finding-requires-clause-shaped c =
+    printed_shaped c.args.model.now (view c.args.solution.now) c.in-Some.printed (sym c.in_ok-read_printed.ensures ∙ c.in-Some.is)
 
 pub returns-in-None : goal.returns-in-None
 unfolding finding
-returns-in-None c = c.broken.ensures ∙ ap (broken_at Shape) c.nowhere.ensures ∙ ap (finding_in c.args.model.now) (sym c.in-None.is ∙ c.in_ok-read_printed.ensures)
+returns-in-None c = c.broken.ensures ∙ ap (broken_at Shape) c.nowhere.ensures
+    ∙ ap (finding_in c.args.model.now) (sym c.in-None.is ∙ c.in_ok-read_printed.ensures)
 
 pub returns-in_ok-lists-in-Some : goal.returns-in_ok-lists-in-Some
 unfolding finding

@@ -4,7 +4,8 @@ use Rattle.vr_check.proofs.costs.arcs_of_route.Given as goal
 
 abbrev pub invariant-loop-node : goal.invariant-loop-node
 invariant-loop-node l = record {
-  sum : l.total +ℤ path_cost l.on.closed.model.now l.on.v l.at (drop l.node-index l.list ++ l.ends.end ∷ []) ≡ path_cost l.on.closed.model.now l.on.v l.ends.start (l.list ++ l.ends.end ∷ []);
+  sum : l.total +ℤ path_cost l.on.closed.model.now l.on.v l.at (drop l.node-index l.list ++ l.ends.end ∷ [])
+      ≡ path_cost l.on.closed.model.now l.on.v l.ends.start (l.list ++ l.ends.end ∷ []);
   low : pos 0 ≤ℤ l.total;
   high : l.total ≤ℤ pos (2 ^ 40 * l.node-index);
   at : l.at < l.on.closed.model.now.nodes;

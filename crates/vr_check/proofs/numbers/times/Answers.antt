@@ -14,7 +14,8 @@ returns c =
     let narrow : read64 coefficient ≡ coefficient = omega (arith, ints, range.at_least, range.at_most) in
     let same : read128 number ≡ number = omega (arith, ints, around.at_least, around.at_most) in
     let bounds = product_within coefficient number range around in
-    let factors : (read128 c.from.result *ℤ read128 number) ≡ (coefficient *ℤ number) = ap₂ (λ x y. x *ℤ y) (wide c.from.result c.from.type_inv ∙ c.from.ensures ∙ narrow) same in
+    let factors : (read128 c.from.result *ℤ read128 number) ≡ (coefficient *ℤ number) = ap₂ (λ x y. x *ℤ y)
+    (wide c.from.result c.from.type_inv ∙ c.from.ensures ∙ narrow) same in
     let fits : read128 (coefficient *ℤ number) ≡ coefficient *ℤ number = omega (arith, ints, bounds.at_least, bounds.at_most) in
     let whole : read128 (read128 c.from.result *ℤ read128 number) ≡ coefficient *ℤ number = ap read128 factors ∙ fits in
     record {

@@ -19,9 +19,16 @@ returns c =
     let soft : read64 parts.soft ≡ parts.soft = search rules in
     let span : read64 parts.span ≡ parts.span = search rules in
     let x0 = c.wrong_part-arcs.ensures ∙ ap₂ (part_broken 0) arcs (wide c.arcs_of.result c.arcs_of.type_inv ∙ c.arcs_of.ensures ∙ ap (arcs_part model) lists) in
-    let x1 = c.wrong_part-fixed.ensures ∙ ap₂ (part_broken 1) fixed (wide c.fixed_of.result c.fixed_of.type_inv ∙ c.fixed_of.ensures ∙ ap (fixed_part model) lists) in
-    let x2 = c.wrong_part-global.ensures ∙ ap₂ (part_broken 2) global (wide c.global_of.result c.global_of.type_inv ∙ c.global_of.ensures ∙ ap (λ r. global_part model (assignment_of r)) sound.routes_are) in
-    let x3 = c.wrong_part-penalty.ensures ∙ ap₂ (part_broken 3) penalty (wide c.penalty_of.result c.penalty_of.type_inv ∙ c.penalty_of.ensures ∙ ap (penalty_part model) lists) in
-    let x4 = c.wrong_part-soft.ensures ∙ ap₂ (part_broken 4) soft (wide c.soft_of.result c.soft_of.type_inv ∙ c.soft_of.ensures ∙ ap (λ r. soft_part model (assignment_of r)) sound.routes_are) in
-    let x5 = c.wrong_part-span.ensures ∙ ap₂ (part_broken 5) span (wide c.span_of.result c.span_of.type_inv ∙ c.span_of.ensures ∙ ap (λ r. span_part model (assignment_of r)) sound.routes_are) in
-    c.earlier-4.ensures ∙ ap₂ earlier x0 (c.earlier-3.ensures ∙ ap₂ earlier x1 (c.earlier-2.ensures ∙ ap₂ earlier x2 (c.earlier-later.ensures ∙ ap₂ earlier x3 (c.earlier.ensures ∙ ap₂ earlier x4 x5))))
+    let x1 = c.wrong_part-fixed.ensures
+    ∙ ap₂ (part_broken 1) fixed (wide c.fixed_of.result c.fixed_of.type_inv ∙ c.fixed_of.ensures ∙ ap (fixed_part model) lists) in
+    let x2 = c.wrong_part-global.ensures ∙ ap₂ (part_broken 2) global
+    (wide c.global_of.result c.global_of.type_inv ∙ c.global_of.ensures ∙ ap (λ r. global_part model (assignment_of r)) sound.routes_are) in
+    let x3 = c.wrong_part-penalty.ensures
+    ∙ ap₂ (part_broken 3) penalty (wide c.penalty_of.result c.penalty_of.type_inv ∙ c.penalty_of.ensures ∙ ap (penalty_part model) lists) in
+    let x4 = c.wrong_part-soft.ensures ∙ ap₂ (part_broken 4) soft
+    (wide c.soft_of.result c.soft_of.type_inv ∙ c.soft_of.ensures ∙ ap (λ r. soft_part model (assignment_of r)) sound.routes_are) in
+    let x5 = c.wrong_part-span.ensures ∙ ap₂ (part_broken 5) span
+    (wide c.span_of.result c.span_of.type_inv ∙ c.span_of.ensures ∙ ap (λ r. span_part model (assignment_of r)) sound.routes_are) in
+    c.earlier-4.ensures ∙ ap₂ earlier
+    x0 (c.earlier-3.ensures
+    ∙ ap₂ earlier x1 (c.earlier-2.ensures ∙ ap₂ earlier x2 (c.earlier-later.ensures ∙ ap₂ earlier x3 (c.earlier.ensures ∙ ap₂ earlier x4 x5))))

@@ -7,4 +7,6 @@ use Rattle.vr_check.specs.Plans.{cumul_broken_at, cumul_broken}
 use Rattle.vr_check.proofs.plans.refused_cumul.Given as goal
 
 abbrev pub invariant-loop-k : goal.invariant-loop-k
-invariant-loop-k l = first_finding (cumul_broken_at (asked_line l.of.asked) l.of.asked.v (plan_of l.of.plan.now)) (from_to l.k (length l.of.plan.now.cumuls)) ≡ cumul_broken (asked_line l.of.asked) l.of.asked.v (plan_of l.of.plan.now)
+invariant-loop-k l =
+    first_finding (cumul_broken_at (asked_line l.of.asked) l.of.asked.v (plan_of l.of.plan.now)) (from_to l.k (length l.of.plan.now.cumuls))
+    ≡ cumul_broken (asked_line l.of.asked) l.of.asked.v (plan_of l.of.plan.now)

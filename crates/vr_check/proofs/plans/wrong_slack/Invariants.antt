@@ -7,4 +7,6 @@ use Rattle.vr_check.specs.Plans.{slack_broken_at, slack_broken}
 use Rattle.vr_check.proofs.plans.wrong_slack.Given as goal
 
 abbrev pub invariant-loop-k : goal.invariant-loop-k
-invariant-loop-k l = first_finding (slack_broken_at (asked_line l.of.asked) l.of.asked.v (plan_of l.of.plan.now)) (from_to l.k (length l.of.plan.now.slacks)) ≡ slack_broken (asked_line l.of.asked) l.of.asked.v (plan_of l.of.plan.now)
+invariant-loop-k l =
+    first_finding (slack_broken_at (asked_line l.of.asked) l.of.asked.v (plan_of l.of.plan.now)) (from_to l.k (length l.of.plan.now.slacks))
+    ≡ slack_broken (asked_line l.of.asked) l.of.asked.v (plan_of l.of.plan.now)

@@ -8,4 +8,5 @@ use Rattle.vr_check.proofs.spans.global_span_of.Given as goal
 
 -- the ends so far and those of the vehicles that are left
 abbrev pub invariant-loop-v : goal.invariant-loop-v
-invariant-loop-v l = span_from (assignment_of l.routes) l.d l.ends (filter (is_used l.routes) (from_to l.v (length l.routes))) ≡ global_span (assignment_of l.routes) l.d
+invariant-loop-v l = span_from (assignment_of l.routes) l.d l.ends (filter (is_used l.routes) (from_to l.v (length l.routes)))
+    ≡ global_span (assignment_of l.routes) l.d

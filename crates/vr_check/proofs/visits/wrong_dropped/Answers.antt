@@ -22,14 +22,16 @@ loop-node-init c =
     let lists = c.args.lists.now in
     record {
       within = omega arith;
-      left = ap (is_same c.args.dropped.now) (walk_begins (filter (is_inactive model lists)) model.nodes ∙ sym (filter-filter (λ node. not (is_active lists node)) (is_visit model) (below model.nodes)));
+      left = ap (is_same c.args.dropped.now) (walk_begins (filter (is_inactive model lists)) model.nodes
+          ∙ sym (filter-filter (λ node. not (is_active lists node)) (is_visit model) (below model.nodes)));
     }
 
 pub returns-then-not-is_next : goal.returns-then-not-is_next
 returns-then-not-is_next c =
     let inactive_from = λ (n : ℕ). filter (is_inactive c.args.model.now c.args.lists.now) (from_to n c.args.model.now.nodes) in
     let n = c.loop-node.node in
-    let kept : inactive_from n ≡ n ∷ inactive_from (n + 1) = keeps (is_inactive c.args.model.now c.args.lists.now) n c.args.model.now.nodes c.loop-node-test.true (sym c.is_inactive.ensures ∙ c.if-is_inactive.true) in
+    let kept : inactive_from n ≡ n ∷ inactive_from (n + 1) = keeps (is_inactive c.args.model.now c.args.lists.now)
+    n c.args.model.now.nodes c.loop-node-test.true (sym c.is_inactive.ensures ∙ c.if-is_inactive.true) in
     let other = other_next c.args.dropped.now (inactive_from (n + 1)) c.loop-node.k n (sym c.is_next.ensures ∙ c.if-not-is_next.true) in
     sym (not_right (sym c.loop-node.invariant.left ∙ ap (is_same (drop c.loop-node.k c.args.dropped.now)) kept ∙ other) c.nowhere.ensures)
 
@@ -39,7 +41,8 @@ loop-node-preserved c =
     let n = c.loop-node.node in
     elim c.if-is_inactive.branch [
       | then-is_inactive+else-not-is_next w ↦ (
-          let kept : inactive_from n ≡ n ∷ inactive_from (n + 1) = keeps (is_inactive c.args.model.now c.args.lists.now) n c.args.model.now.nodes c.loop-node-test.true (sym c.is_inactive.ensures ∙ w.if-is_inactive.true) in
+          let kept : inactive_from n ≡ n ∷ inactive_from (n + 1) = keeps (is_inactive c.args.model.now c.args.lists.now)
+          n c.args.model.now.nodes c.loop-node-test.true (sym c.is_inactive.ensures ∙ w.if-is_inactive.true) in
           let next = sym w.is_next.ensures ∙ w.if-not-is_next.false in
           let same = same_next c.args.dropped.now (inactive_from (n + 1)) c.loop-node.k n next in
           rw w.k-is (record {
@@ -47,7 +50,8 @@ loop-node-preserved c =
             left = sym same ∙ sym (ap (is_same (drop c.loop-node.k c.args.dropped.now)) kept) ∙ c.loop-node.invariant.left;
           }))
       | else-is_inactive w ↦ (
-          let left : inactive_from n ≡ inactive_from (n + 1) = leaves_out (is_inactive c.args.model.now c.args.lists.now) n c.args.model.now.nodes c.loop-node-test.true (sym c.is_inactive.ensures ∙ w.if-is_inactive.false) in
+          let left : inactive_from n ≡ inactive_from (n + 1) = leaves_out (is_inactive c.args.model.now c.args.lists.now)
+          n c.args.model.now.nodes c.loop-node-test.true (sym c.is_inactive.ensures ∙ w.if-is_inactive.false) in
           rw w.k-is (record {
             within = c.loop-node.invariant.within;
             left = sym (ap (is_same (drop c.loop-node.k c.args.dropped.now)) left) ∙ c.loop-node.invariant.left;

@@ -11,7 +11,10 @@ use Rattle.vr_costfilter.proofs.all_cumuls.write_list.Goals as goal
 
 pub write-requires : goal.write-requires
 write-requires c =
-    record { known = known-at c.args.tour.now.closed.model.now c.args.tables.now c.requires.tables c.loop-d.d c.index-tables-d.result c.index-tables-d.is (omega (arith, c.requires.tables.one_of_each, c.loop-d-test.true, c.loop-d.invariant.many, c.requires.many)) }
+    record {
+      known = known-at c.args.tour.now.closed.model.now c.args.tables.now c.requires.tables c.loop-d.d c.index-tables-d.result
+          c.index-tables-d.is (omega (arith, c.requires.tables.one_of_each, c.loop-d-test.true, c.loop-d.invariant.many, c.requires.many));
+    }
 
 pub loop-d-init : goal.loop-d-init
 loop-d-init c = record {
@@ -38,7 +41,8 @@ loop-d-preserved c =
       many = many ∙ i.many;
       written = λ lists all known.
           let h = i.written lists all known in
-          written-more (λ d (ones : List KeptList). AreKept m d (with_route lists c.args.tour.now.v c.args.tour.now.list.now) ones) (λ d (ones : List KeptList). AreKept m d lists ones) at kept h inside new
+          written-more (λ d (ones : List KeptList). AreKept m d (with_route lists c.args.tour.now.v c.args.tour.now.list.now) ones)
+          (λ d (ones : List KeptList). AreKept m d lists ones) at kept h inside new
           (c.write.ensures.kept lists (h.left at c.index-kept-d.result (omega arith) inside) known);
       as_many = λ d other low.
           let apart = λ (e : (d ≡ at) → ⊥). ap length (get_or-set_other kept at d new other e) ∙ i.as_many d other (omega (arith, low, many)) in
@@ -50,7 +54,8 @@ loop-d-preserved c =
                   let here : d ≡ at = omega (arith, high, least) in
                   let there = i.as_many at c.index-kept-d.result inside in
                   let first : at < length c.args.kept.now = omega (arith, c.requires.many, i.many, inside) in
-                  let set = ap length (get_or-set_same kept at new other inside) ∙ c.write.ensures.many ∙ there ∙ ap length (get_or_default c.args.kept.now at c.index-kept-d.result other first) in
+                  let set = ap length (get_or-set_same kept at new other inside) ∙ c.write.ensures.many
+                  ∙ there ∙ ap length (get_or_default c.args.kept.now at c.index-kept-d.result other first) in
                   subst (λ n. length (slice_index_or (slice_set kept at new) n other) ≡ length (slice_index_or c.args.kept.now n other)) (sym here) set)
             ]
           ];

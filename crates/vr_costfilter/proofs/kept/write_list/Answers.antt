@@ -20,4 +20,7 @@ invariant_of-on c =
     let tour = c.args.tour.now in
     let m = tour.closed.model.now in
     let list : List ℕ = tour.list.now in
-    record { sound = subst (λ m. AreFewVisits m list) (sym c.in-Some.ensures.model) (record { few = tour.sound.few; visits = all-visits m list tour.sound.visits }) }
+    record {
+      sound =
+          subst (λ m. AreFewVisits m list) (sym c.in-Some.ensures.model) (record { few = tour.sound.few; visits = all-visits m list tour.sound.visits });
+    }

@@ -28,4 +28,5 @@ returns-clause-value c =
 pub returns-then-dimension-eq0-clause-value : goal.returns-then-dimension-eq0-clause-value
 returns-then-dimension-eq0-clause-value c =
     let same = ap (λ x. x.global_span_cost) (c.get-dimension.ensures.value no_dimension) in
-    sym (times-none (dimension_at c.args.closed.model.now c.args.d).global_span_cost (length_of (extent_after c.args.d c.args.vehicles.now c.args.next.now c.args.orders.now)) (omega (arith, ints, same, c.if-dimension-eq0.true)))
+    sym (times-none (dimension_at c.args.closed.model.now c.args.d).global_span_cost
+    (length_of (extent_after c.args.d c.args.vehicles.now c.args.next.now c.args.orders.now)) (omega (arith, ints, same, c.if-dimension-eq0.true)))

@@ -18,7 +18,8 @@ cost_of_span-cost-requires-clause-ranged c pays =
     let known : d < length c.args.closed.model.now.dimensions = omega (arith, h.many, low) in
     record {
       dimension = omega (arith, c.args.closed.well_formed.number_of_dimensions, known);
-      in_orders = subst AreInRange (sym (c.index-orders-d.is ∙ get_or_default c.args.orders.now d c.index-orders-d.result no_orders low)) (h.in_orders d known pays);
+      in_orders =
+          subst AreInRange (sym (c.index-orders-d.is ∙ get_or_default c.args.orders.now d c.index-orders-d.result no_orders low)) (h.in_orders d known pays);
       in_rows = h.in_rows d known pays;
     }
 
@@ -32,9 +33,13 @@ loop-d-preserved c =
     let many = c.requires.ranged.many in
     let few = c.args.closed.well_formed.number_of_dimensions in
     let value : c.cost_of_span-cost.result ≡ span_cost_after m c.args.orders.now c.args.vehicles.now c.args.next.now d = e.value
-    ∙ ap (λ (o : SortedEnds). (dimension_at m d).global_span_cost *ℤ length_of (extent_after d c.args.vehicles.now c.args.next.now o)) (c.index-orders-d.is ∙ get_or_default c.args.orders.now d c.index-orders-d.result no_orders low) in
+    ∙ ap (λ (o : SortedEnds). (dimension_at m d).global_span_cost *ℤ length_of (extent_after d c.args.vehicles.now c.args.next.now o))
+    (c.index-orders-d.is ∙ get_or_default c.args.orders.now d c.index-orders-d.result no_orders low) in
     let next = total_by-more (span_cost_after m c.args.orders.now c.args.vehicles.now c.args.next.now) d in
     record {
       sum = omega (arith, ints, next, i.sum, value, c.loop-d.cost-is, i.range.low, i.range.high, e.range.low, e.range.high, few, many, low);
-      range = record { low = omega (arith, ints, c.loop-d.cost-is, i.range.low, i.range.high, e.range.low, e.range.high, few, many, low); high = omega (arith, ints, c.loop-d.cost-is, i.range.low, i.range.high, e.range.low, e.range.high, few, many, low) };
+      range = record {
+        low = omega (arith, ints, c.loop-d.cost-is, i.range.low, i.range.high, e.range.low, e.range.high, few, many, low);
+        high = omega (arith, ints, c.loop-d.cost-is, i.range.low, i.range.high, e.range.low, e.range.high, few, many, low);
+      };
     }

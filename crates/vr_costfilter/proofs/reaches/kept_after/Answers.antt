@@ -30,13 +30,17 @@ returns-in-Some c = record {
     is_timing = c.in-Some.ensures.timing;
     range = (let r = c.in-Some.ensures.range in record { start = r.start_in_range; last = r.last_in_range });
   };
-  untold = λ zero. absurd (let none = ap (λ x. x.global_span_cost) (sym (c.get.ensures.value no_dimension)) ∙ zero in omega (arith, ints, none, c.if-get-eq0.false));
+  untold =
+      λ zero. absurd (let none = ap (λ x. x.global_span_cost) (sym (c.get.ensures.value no_dimension)) ∙ zero in omega (arith, ints, none, c.if-get-eq0.false));
 }
 
 pub invariant_of-tour : goal.invariant_of-tour
 invariant_of-tour c =
     let part = c.args.part.now in
-    record { sound = tour-of part.model.now c.vehicle.result (list_after part) c.vehicle.ensures.known (list-of-part part) c.as_slice.result.now (c.as_slice.ensures.value ∙ c.write.ensures.list) }
+    record {
+      sound = tour-of part.model.now c.vehicle.result (list_after part) c.vehicle.ensures.known
+          (list-of-part part) c.as_slice.result.now (c.as_slice.ensures.value ∙ c.write.ensures.list);
+    }
 
 pub returns : goal.returns
 returns c =

@@ -8,7 +8,10 @@ use Rattle.vr_costfilter.specs.GlobalCosts.{IsTimedIfPaid}
 use Rattle.vr_costfilter.proofs.reaches.row_of_list.Goals as goal
 
 pub timing_of_tour-requires : goal.timing_of_tour-requires
-timing_of_tour-requires c = record { known = known-at c.args.tour.now.closed.model.now c.args.tables.now c.requires.tables c.loop-d.d c.index-tables-d.result c.index-tables-d.is c.loop-d-test.true }
+timing_of_tour-requires c = record {
+  known =
+      known-at c.args.tour.now.closed.model.now c.args.tables.now c.requires.tables c.loop-d.d c.index-tables-d.result c.index-tables-d.is c.loop-d-test.true;
+}
 
 pub loop-d-preserved : goal.loop-d-preserved
 loop-d-preserved c =
@@ -23,11 +26,14 @@ loop-d-preserved c =
     record {
       many = length-set row d new ∙ i.many;
       each = λ e under. elim (cases_lt e d) [
-        | inl before ↦ subst (IsTimedIfPaid c.args.tour.now.closed.model.now e c.args.tour.now.v c.args.tour.now.list.now) (sym (get_or-set_other row d e new None (omega (arith, before)))) (i.each e before)
+        | inl before ↦ subst (IsTimedIfPaid c.args.tour.now.closed.model.now e c.args.tour.now.v c.args.tour.now.list.now)
+            (sym (get_or-set_other row d e new None (omega (arith, before)))) (i.each e before)
         | inr past ↦ (
             let here : d ≡ e = omega (arith, under, past) in
-            subst (λ k. IsTimedIfPaid c.args.tour.now.closed.model.now k c.args.tour.now.v c.args.tour.now.list.now (slice_index_or (slice_set row d new) k None)) here
-            (subst (IsTimedIfPaid c.args.tour.now.closed.model.now d c.args.tour.now.v c.args.tour.now.list.now) (sym (get_or-set_same row d new None (omega (arith, n, few, low, many)))) c.in_ok-row.ensures))
+            subst (λ k. IsTimedIfPaid c.args.tour.now.closed.model.now k c.args.tour.now.v
+            c.args.tour.now.list.now (slice_index_or (slice_set row d new) k None)) here
+            (subst (IsTimedIfPaid c.args.tour.now.closed.model.now d c.args.tour.now.v c.args.tour.now.list.now)
+            (sym (get_or-set_same row d new None (omega (arith, n, few, low, many)))) c.in_ok-row.ensures))
       ];
     }
 

@@ -9,7 +9,8 @@ use Rattle.vr_costfilter.specs.GlobalCosts.{IsTimedIfPaid}
 use Rattle.vr_costfilter.proofs.reaches.row_of_part.Goals as goal
 
 pub kept_after-requires-clause-known : goal.kept_after-requires-clause-known
-kept_after-requires-clause-known c = known-at c.args.part.now.model.now c.args.tables.now c.requires.tables c.loop-d.d c.index-tables-d.result c.index-tables-d.is c.loop-d-test.true
+kept_after-requires-clause-known c =
+    known-at c.args.part.now.model.now c.args.tables.now c.requires.tables c.loop-d.d c.index-tables-d.result c.index-tables-d.is c.loop-d-test.true
 
 pub loop-d-preserved : goal.loop-d-preserved
 loop-d-preserved c =
@@ -20,11 +21,18 @@ loop-d-preserved c =
     record {
       many = length-set row d new ∙ i.many;
       each = λ e under. elim (cases_lt e d) [
-        | inl before ↦ subst (IsTimedIfPaid c.args.part.now.model.now e (part_at c.args.part.now.change.now c.args.part.now.k).vehicle (joined c.args.part.now.routes.now.lists (part_at c.args.part.now.change.now c.args.part.now.k).pieces)) (sym (get_or-set_other row d e new None (omega (arith, before)))) (i.each e before)
+        | inl before ↦ subst (IsTimedIfPaid c.args.part.now.model.now e (part_at c.args.part.now.change.now c.args.part.now.k).vehicle
+            (joined c.args.part.now.routes.now.lists (part_at c.args.part.now.change.now c.args.part.now.k).pieces))
+            (sym (get_or-set_other row d e new None (omega (arith, before)))) (i.each e before)
         | inr past ↦ (
             let here : d ≡ e = omega (arith, under, past) in
-            subst (λ k. IsTimedIfPaid c.args.part.now.model.now k (part_at c.args.part.now.change.now c.args.part.now.k).vehicle (joined c.args.part.now.routes.now.lists (part_at c.args.part.now.change.now c.args.part.now.k).pieces) (slice_index_or (slice_set row d new) k None)) here
-            (subst (IsTimedIfPaid c.args.part.now.model.now d (part_at c.args.part.now.change.now c.args.part.now.k).vehicle (joined c.args.part.now.routes.now.lists (part_at c.args.part.now.change.now c.args.part.now.k).pieces)) (sym (get_or-set_same row d new None (omega (arith, c.requires.tables.one_of_each, c.args.part.now.sound.well_formed.number_of_dimensions, c.loop-d-test.true, i.many)))) c.in_ok-timings.ensures))
+            subst (λ k. IsTimedIfPaid c.args.part.now.model.now k (part_at c.args.part.now.change.now c.args.part.now.k).vehicle
+            (joined c.args.part.now.routes.now.lists (part_at c.args.part.now.change.now c.args.part.now.k).pieces)
+            (slice_index_or (slice_set row d new) k None)) here
+            (subst (IsTimedIfPaid c.args.part.now.model.now d (part_at c.args.part.now.change.now c.args.part.now.k).vehicle
+            (joined c.args.part.now.routes.now.lists (part_at c.args.part.now.change.now c.args.part.now.k).pieces)) (sym (get_or-set_same row d new
+            None (omega (arith, c.requires.tables.one_of_each, c.args.part.now.sound.well_formed.number_of_dimensions, c.loop-d-test.true, i.many))))
+            c.in_ok-timings.ensures))
       ];
     }
 

@@ -24,7 +24,10 @@ invariant_of-tour c =
     let well = c.args.closed.well_formed in
     let lists : List (List ℕ) = c.args.routes.now.lists in
     let many = (small m well lists c.requires.valid).many in
-    record { sound = tour-of m c.args.v (route lists c.args.v) (omega (arith, many, c.requires.vehicle)) (list-of m well lists c.requires.valid c.args.v) c.list.result.now c.list.ensures.value }
+    record {
+      sound = tour-of m c.args.v (route lists c.args.v) (omega (arith, many, c.requires.vehicle))
+          (list-of m well lists c.requires.valid c.args.v) c.list.result.now c.list.ensures.value;
+    }
 
 pub set-requires-clause-range : goal.set-requires-clause-range
 set-requires-clause-range c =
@@ -51,7 +54,8 @@ set-requires-clause-room c =
     let are = subst (AreOrders m d lists) (sym read) (c.loop-d.invariant.left d (omega arith) low pays) in
     let many = (small m c.args.closed.well_formed c.args.routes.now.lists c.requires.valid).many in
     let few : length c.args.routes.now.lists ≤ 100 = omega (arith, many, c.args.closed.well_formed.number_of_vehicles.at_most) in
-    orders-room m d lists (slice_index_or os d c.index-orders-d.result) are c.args.v (c.args.v + 1) (λ u used. (let l = used-first c.args.routes.now.lists c.args.v u used in omega (arith, l))) (omega arith) (omega (arith, few, c.requires.vehicle))
+    orders-room m d lists (slice_index_or os d c.index-orders-d.result) are c.args.v (c.args.v + 1)
+    (λ u used. (let l = used-first c.args.routes.now.lists c.args.v u used in omega (arith, l))) (omega arith) (omega (arith, few, c.requires.vehicle))
 
 pub loop-d-preserved : goal.loop-d-preserved
 loop-d-preserved c =
@@ -72,10 +76,14 @@ loop-d-preserved c =
             let here : Pays m d → AreOrders m d (take (v + 1) all) w.set.new.self = λ pay. (
             let read : slice_index_or os d w.index-orders-d.result ≡ orders_at os d = get_or_default os d w.index-orders-d.result no_orders inside in
             let are = subst (AreOrders m d (take v all)) (sym read) (i.left d (omega arith) low pay) in
-            let told : IsTimedIfUsed m d v (route (take (v + 1) all) v) (timing_in d row) = subst (λ l. IsTimedIfUsed m d v l (timing_in d row)) (c.list.ensures.value ∙ sym (route-first all (v + 1) v (omega arith))) ((c.in_ok-row.ensures.each d low).told pay) in
-            subst (AreOrders m d (take (v + 1) all)) (sym w.set.ensures) (orders-set m d (take v all) (slice_index_or os d w.index-orders-d.result) are v (take (v + 1) all) (λ u apart. route-more all v u apart) (timing_in d row) told)) in
+            let told : IsTimedIfUsed m d v (route (take (v + 1) all) v) (timing_in d row) = subst (λ l. IsTimedIfUsed m d v l (timing_in d row))
+            (c.list.ensures.value ∙ sym (route-first all (v + 1) v (omega arith))) ((c.in_ok-row.ensures.each d low).told pay) in
+            subst (AreOrders m d (take (v + 1) all)) (sym w.set.ensures)
+            (orders-set m d (take v all) (slice_index_or os d w.index-orders-d.result) are v
+            (take (v + 1) all) (λ u apart. route-more all v u apart) (timing_in d row) told)) in
             subst (λ (xs : List SortedEnds). AreOrders m e (take (v + 1) all) (orders_at xs e)) (sym w.orders-is)
-            (written-at (λ k x. Pays m k → AreOrders m k (take (v + 1) all) x) os d w.set.new.self inside here e under (λ before pay. i.done e before there pay) pays))
+            (written-at (λ k x. Pays m k → AreOrders m k (take (v + 1) all) x) os d
+            w.set.new.self inside here e under (λ before pay. i.done e before there pay) pays))
         | else-get-ne0 w ↦ subst (λ (xs : List SortedEnds). AreOrders m e (take (v + 1) all) (orders_at xs e)) (sym w.orders-is) (elim (cases_lt e d) [
           | inl before ↦ i.done e before there pays
           | inr past ↦ (
@@ -87,7 +95,8 @@ loop-d-preserved c =
       left = λ e past there pays. elim c.if-get-ne0.branch [
         | then-get-ne0 w ↦ subst (λ (xs : List SortedEnds). AreOrders m e (take v all) (orders_at xs e)) (sym w.orders-is)
             (left-at (λ k x. AreOrders m k (take v all) x) os d w.set.new.self e past (i.left e (omega (arith, past)) there pays))
-        | else-get-ne0 w ↦ subst (λ (xs : List SortedEnds). AreOrders m e (take v all) (orders_at xs e)) (sym w.orders-is) (i.left e (omega (arith, past)) there pays)
+        | else-get-ne0 w ↦
+            subst (λ (xs : List SortedEnds). AreOrders m e (take v all) (orders_at xs e)) (sym w.orders-is) (i.left e (omega (arith, past)) there pays)
       ];
     }
 

@@ -24,5 +24,6 @@ returns c = record {
     is_timing = c.in_ok-timing.ensures.timing;
     range = (let r = c.in_ok-timing.ensures.range in record { start = r.start_in_range; last = r.last_in_range });
   };
-  untold = λ zero. absurd (let none = ap (λ x. x.global_span_cost) (sym (c.get.ensures.value no_dimension)) ∙ zero in omega (arith, ints, none, c.if-get-eq0.false));
+  untold =
+      λ zero. absurd (let none = ap (λ x. x.global_span_cost) (sym (c.get.ensures.value no_dimension)) ∙ zero in omega (arith, ints, none, c.if-get-eq0.false));
 }

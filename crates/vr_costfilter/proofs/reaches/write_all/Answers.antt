@@ -20,8 +20,12 @@ write_in-requires c =
     let less = c.loop-d-test.true in
     let low : d < length m.dimensions = omega (arith, less, h.1.orders_are.many) in
     let same = ap (λ x. x.global_span_cost) (c.get.ensures.value no_dimension) in
-    let pays : Pays m d = λ none. absurd (omega (arith, ints, c.if-get-ne0.true, same, none)) in
-    (m, h.0, rows-in m c.args.closed.well_formed h.0 c.args.change.now c.args.orders.now c.args.next.now h.1 d low pays c.index-orders-d.result (c.index-orders-d.is ∙ get_or_default c.args.orders.now d c.index-orders-d.result no_orders less))
+    let pays : Pays m d = λ none. absurd (omega (arith, ints, c.if-get-ne0.true, same, none)) in (
+      m,
+      h.0,
+      rows-in m c.args.closed.well_formed h.0 c.args.change.now c.args.orders.now c.args.next.now h.1 d low pays
+          c.index-orders-d.result (c.index-orders-d.is ∙ get_or_default c.args.orders.now d c.index-orders-d.result no_orders less),
+    )
 
 pub loop-d-preserved : goal.loop-d-preserved
 loop-d-preserved c =
@@ -39,9 +43,12 @@ loop-d-preserved c =
       done = λ lists rows e under known pays. elim c.if-get-ne0.branch [
         | then-get-ne0 w ↦ (
             let here : Pays m d → AreOrders m d (changed lists parts) w.write_in.new.out = λ pay.
-            w.write_in.ensures m lists (rows-in m c.args.closed.well_formed lists parts c.args.orders.now c.args.next.now rows d low pay w.index-orders-d.result (w.index-orders-d.is ∙ get_or_default c.args.orders.now d w.index-orders-d.result no_orders less)) in
+            w.write_in.ensures m lists
+            (rows-in m c.args.closed.well_formed lists parts c.args.orders.now c.args.next.now rows d low pay w.index-orders-d.result
+            (w.index-orders-d.is ∙ get_or_default c.args.orders.now d w.index-orders-d.result no_orders less)) in
             subst (λ (xs : List SortedEnds). AreOrders m e (changed lists parts) (orders_at xs e)) (sym w.out-is)
-            (written-at (λ k x. Pays m k → AreOrders m k (changed lists parts) x) os d w.write_in.new.out inside here e under (λ before pay. i.done lists rows e before known pay) pays))
+            (written-at (λ k x. Pays m k → AreOrders m k (changed lists parts) x) os d w.write_in.new.out
+            inside here e under (λ before pay. i.done lists rows e before known pay) pays))
         | else-get-ne0 w ↦ subst (λ (xs : List SortedEnds). AreOrders m e (changed lists parts) (orders_at xs e)) (sym w.out-is) (elim (cases_lt e d) [
           | inl before ↦ i.done lists rows e before known pays
           | inr past ↦ (

@@ -21,7 +21,10 @@ returns-then-not-may_pay_alone-clause-value c =
     omega (arith, ints, soft, span)
 
 pub cost_of_timing-requires-clause-timing : goal.cost_of_timing-requires-clause-timing
-cost_of_timing-requires-clause-timing c = let few = c.args.tour.now.sound.few in timing-more c.in_ok-timing.timing (length c.args.tour.now.list.now + 2) 1002 (omega (arith, few)) c.in_ok-timing.ensures.range
+cost_of_timing-requires-clause-timing c =
+    let few = c.args.tour.now.sound.few in
+    timing-more c.in_ok-timing.timing (length c.args.tour.now.list.now + 2) 1002 (omega (arith, few)) c.in_ok-timing.ensures.range
 
 pub returns-clause-value : goal.returns-clause-value
-returns-clause-value c = timed-cost c.args.tour.now.closed.model.now c.args.d c.args.tour.now.v c.args.tour.now.list.now c.in_ok-timing.timing c.in_ok-timing.ensures.timing c.cost_of_timing.result c.cost_of_timing.ensures.value c.cost_of_timing.ensures.range
+returns-clause-value c = timed-cost c.args.tour.now.closed.model.now c.args.d c.args.tour.now.v c.args.tour.now.list.now
+    c.in_ok-timing.timing c.in_ok-timing.ensures.timing c.cost_of_timing.result c.cost_of_timing.ensures.value c.cost_of_timing.ensures.range

@@ -33,7 +33,10 @@ cost_of_timing-requires-clause-timing c =
 pub invariant_of-tour : goal.invariant_of-tour
 invariant_of-tour c =
     let part = c.args.part.now in
-    record { sound = tour-of part.model.now c.vehicle-v.result (list_after part) c.vehicle-v.ensures.known (list-of-part part) c.as_slice.result.now (c.as_slice.ensures.value ∙ c.write.ensures.list) }
+    record {
+      sound = tour-of part.model.now c.vehicle-v.result (list_after part) c.vehicle-v.ensures.known
+          (list-of-part part) c.as_slice.result.now (c.as_slice.ensures.value ∙ c.write.ensures.list);
+    }
 
 pub returns-in-Some-clause-value : goal.returns-in-Some-clause-value
 returns-in-Some-clause-value c =
@@ -41,7 +44,9 @@ returns-in-Some-clause-value c =
     let part = part_at c.args.part.now.change.now c.args.part.now.k in
     let timing = c.in-Some.timing in
     timed-cost m c.args.d part.vehicle (joined c.args.part.now.routes.now.lists part.pieces) timing c.in-Some.ensures.timing c.cost_of_timing.result
-    (c.cost_of_timing.ensures.value ∙ ap (λ w. timing.soft +ℤ (number_at (dimension_at m c.args.d).span_costs w *ℤ (timing.last -ℤ timing.start))) c.vehicle-v.ensures.value) c.cost_of_timing.ensures.range
+    (c.cost_of_timing.ensures.value
+    ∙ ap (λ w. timing.soft +ℤ (number_at (dimension_at m c.args.d).span_costs w *ℤ (timing.last -ℤ timing.start))) c.vehicle-v.ensures.value)
+    c.cost_of_timing.ensures.range
 
 pub returns-clause-value : goal.returns-clause-value
 returns-clause-value c =
@@ -50,4 +55,5 @@ returns-clause-value c =
     let list = list_after c.args.part.now in
     let found = c.cost_of_plan.result in
     subst (λ v. IfOk found (λ cost. cost ≡ soft_with m d v list +ℤ span_with m d v list)) c.vehicle-v.ensures.value
-    (subst (λ l. IfOk found (λ cost. cost ≡ soft_with m d c.vehicle-v.result l +ℤ span_with m d c.vehicle-v.result l)) (c.as_slice.ensures.value ∙ c.write.ensures.list) c.cost_of_plan.ensures.value)
+    (subst (λ l. IfOk found (λ cost. cost ≡ soft_with m d c.vehicle-v.result l +ℤ span_with m d c.vehicle-v.result l))
+    (c.as_slice.ensures.value ∙ c.write.ensures.list) c.cost_of_plan.ensures.value)

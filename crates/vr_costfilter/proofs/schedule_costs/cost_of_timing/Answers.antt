@@ -9,7 +9,8 @@ use Rattle.vr_costfilter.proofs.schedule_costs.cost_of_timing.Goals as goal
 pub span_cost-requires-clause-vehicle : goal.span_cost-requires-clause-vehicle
 span_cost-requires-clause-vehicle c =
     let is = c.args.closed.well_formed.each_dimension c.args.d no_dimension c.requires.dimension in
-    subst (λ x. c.args.v < length x.span_costs) (c.get-dimension.ensures.value no_dimension) (subst (λ n. c.args.v < n) (sym is.span_cost_of_each_vehicle) c.requires.vehicle)
+    subst (λ x. c.args.v < length x.span_costs) (c.get-dimension.ensures.value no_dimension)
+    (subst (λ n. c.args.v < n) (sym is.span_cost_of_each_vehicle) c.requires.vehicle)
 
 pub span_cost-requires-clause-coefficients : goal.span_cost-requires-clause-coefficients
 span_cost-requires-clause-coefficients c =

@@ -30,7 +30,10 @@ loop-d-preserved c =
           let value : c.least_of_span-cost.result ≡ paid model part.vehicle list c.loop-d.d = e.value lists are in
           let before = i.sum lists are in
           omega (arith, ints, next, before, is, value, e.range.low, e.range.high, i.range.low, i.range.high, low, few, n);
-      range = record { low = omega (arith, ints, is, e.range.low, e.range.high, i.range.low, i.range.high, low, few, n); high = omega (arith, ints, is, e.range.low, e.range.high, i.range.low, i.range.high, low, few, n) };
+      range = record {
+        low = omega (arith, ints, is, e.range.low, e.range.high, i.range.low, i.range.high, low, few, n);
+        high = omega (arith, ints, is, e.range.low, e.range.high, i.range.low, i.range.high, low, few, n);
+      };
     }
 
 pub returns-clause-value : goal.returns-clause-value

@@ -27,7 +27,8 @@ times-requires-clause-range c =
     let last = r.last in
     let start = r.start in
     let span = r.span in
-    let less : to_z w64 (of_z w64 (to_z w64 (of_z w64 s.last) -ℤ to_z w64 (of_z w64 s.start))) ≡ s.last -ℤ s.start = omega (arith, ints, last.at_least, last.at_most, start.at_least, start.at_most) in
+    let less : to_z w64 (of_z w64 (to_z w64 (of_z w64 s.last) -ℤ to_z w64 (of_z w64 s.start))) ≡ s.last -ℤ s.start =
+    omega (arith, ints, last.at_least, last.at_most, start.at_least, start.at_most) in
     let is : c.max.result ≡ int_max (s.last -ℤ s.start) s.span = value ∙ ap₂ (λ x y. int_max x y) less (read-span s.span span) in
     record {
       low = omega (arith, ints, is, m, c.max.type_inv, last.at_least, last.at_most, start.at_least, start.at_most, span.at_least, span.at_most);
@@ -38,7 +39,8 @@ pub returns-then-coefficient-eq0-clause-value : goal.returns-then-coefficient-eq
 returns-then-coefficient-eq0-clause-value c lists are orders =
     let s = spread_after c.args.early.now.model.now lists c.args.early.now.change.now c.args.d in
     let is = ap (λ x. x.global_span_cost) (c.get.ensures.value no_dimension) in
-    sym (times-none (dimension_at c.args.early.now.model.now c.args.d).global_span_cost (int_max (s.last -ℤ s.start) s.span) (omega (arith, ints, is, c.if-coefficient-eq0.true)))
+    sym (times-none (dimension_at c.args.early.now.model.now c.args.d).global_span_cost
+    (int_max (s.last -ℤ s.start) s.span) (omega (arith, ints, is, c.if-coefficient-eq0.true)))
 
 pub returns-clause-value : goal.returns-clause-value
 returns-clause-value c lists are orders =
@@ -48,13 +50,15 @@ returns-clause-value c lists are orders =
     let e = c.spread_after-spread.ensures in
     let last = e.range.last in
     let start = e.range.start in
-    let less : to_z w64 (of_z w64 (to_z w64 (of_z w64 s.last) -ℤ to_z w64 (of_z w64 s.start))) ≡ s.last -ℤ s.start = omega (arith, ints, last.at_least, last.at_most, start.at_least, start.at_most) in
+    let less : to_z w64 (of_z w64 (to_z w64 (of_z w64 s.last) -ℤ to_z w64 (of_z w64 s.start))) ≡ s.last -ℤ s.start =
+    omega (arith, ints, last.at_least, last.at_most, start.at_least, start.at_most) in
     let is : c.max.result ≡ int_max (s.last -ℤ s.start) s.span = c.max.ensures.value ∙ ap₂ (λ x y. int_max x y) less (read-span s.span e.range.span) in
     let max : to_z w64 (of_z w64 c.max.result) ≡ c.max.result = omega (arith, ints, c.max.type_inv) in
     let same = ap (λ x. x.global_span_cost) (c.get.ensures.value no_dimension) in
     let pays : Pays model d = λ none. absurd (omega (arith, ints, same, c.if-coefficient-eq0.false, none)) in
     let r = (c.args.early.now.sound.well_formed.each_dimension d no_dimension c.requires.dimension).global_span_cost_in_range in
-    let coefficient : to_z w64 (of_z w64 c.get.result.now.global_span_cost) ≡ (dimension_at model d).global_span_cost = omega (arith, ints, same, r.at_least, r.at_most) in
+    let coefficient : to_z w64 (of_z w64 c.get.result.now.global_span_cost) ≡ (dimension_at model d).global_span_cost =
+    omega (arith, ints, same, r.at_least, r.at_most) in
     read-around c.times.result cumul_cost c.times.ensures.range (omega arith) ∙ c.times.ensures.value
     ∙ ap₂ (λ x y. x *ℤ y) coefficient (max ∙ is ∙ ap (λ (t : Spread). int_max (t.last -ℤ t.start) t.span) (e.value lists are (orders pays)))
 

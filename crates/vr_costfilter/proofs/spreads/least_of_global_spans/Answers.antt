@@ -12,7 +12,8 @@ pub least_of_global_span-cost-requires-clause-orders : goal.least_of_global_span
 least_of_global_span-cost-requires-clause-orders c pays =
     let low = c.loop-d-test.true in
     let known : c.loop-d.d < length c.args.early.now.model.now.dimensions = omega (arith, c.requires.many, low) in
-    subst AreInRange (sym (c.index-orders-d.is ∙ get_or_default c.args.orders.now c.loop-d.d c.index-orders-d.result no_orders low)) (c.requires.in_orders c.loop-d.d known pays)
+    subst AreInRange (sym (c.index-orders-d.is ∙ get_or_default c.args.orders.now c.loop-d.d c.index-orders-d.result no_orders low))
+    (c.requires.in_orders c.loop-d.d known pays)
 
 pub loop-d-preserved : goal.loop-d-preserved
 loop-d-preserved c =
@@ -27,10 +28,15 @@ loop-d-preserved c =
     record {
       sum = λ lists are orders.
           let next = total_by-more (global_least_in model lists c.args.early.now.change.now) d in
-          let value = e.value lists are (λ pays. subst (AreOrders model d lists) (sym (c.index-orders-d.is ∙ get_or_default c.args.orders.now d c.index-orders-d.result no_orders low)) (orders.each d known pays)) in
+          let value = e.value lists are
+          (λ pays. subst (AreOrders model d lists)
+          (sym (c.index-orders-d.is ∙ get_or_default c.args.orders.now d c.index-orders-d.result no_orders low)) (orders.each d known pays)) in
           let before = i.sum lists are orders in
           omega (arith, ints, next, before, value, c.loop-d.cost-is, i.range.low, i.range.high, e.range.low, e.range.high, few, many, low);
-      range = record { low = omega (arith, ints, c.loop-d.cost-is, i.range.low, i.range.high, e.range.low, e.range.high, few, many, low); high = omega (arith, ints, c.loop-d.cost-is, i.range.low, i.range.high, e.range.low, e.range.high, few, many, low) };
+      range = record {
+        low = omega (arith, ints, c.loop-d.cost-is, i.range.low, i.range.high, e.range.low, e.range.high, few, many, low);
+        high = omega (arith, ints, c.loop-d.cost-is, i.range.low, i.range.high, e.range.low, e.range.high, few, many, low);
+      };
     }
 
 pub returns-clause-value : goal.returns-clause-value

@@ -20,7 +20,8 @@ loop-k-init c =
     let extent = extent_but (vehicles_of parts) c.args.orders.now in
     let value : c.spread_but-spread.result ≡ spread_of extent = e.value ∙ ap (λ us. spread_of (extent_but us c.args.orders.now)) vehicles in
     record {
-      value = λ lists are orders. value ∙ spread-told model lists parts d extent (extent-but-is model d lists c.args.orders.now orders (vehicles_of parts)) (subst IsSpreadInRange value e.range);
+      value = λ lists are orders. value ∙ spread-told model lists parts d extent
+          (extent-but-is model d lists c.args.orders.now orders (vehicles_of parts)) (subst IsSpreadInRange value e.range);
       range = e.range;
     }
 
@@ -31,12 +32,16 @@ loop-k-preserved c =
     let e = c.with_changed-spread.ensures in
     let low = subst (λ n. c.loop-k.k < n) c.parts-k-end.ensures.value c.loop-k-test.true in
     record {
-      value = λ lists are orders. e.value lists are ∙ ap (λ s. with_changed model lists c.args.paid.now.d s (part_at parts c.loop-k.k)) (c.loop-k.invariant.value lists are orders)
-          ∙ sym (fold_more (with_changed model lists c.args.paid.now.d) (spread_of_kept model lists parts c.args.paid.now.d (length lists)) parts c.loop-k.k no_part low);
+      value = λ lists are orders. e.value lists are
+          ∙ ap (λ s. with_changed model lists c.args.paid.now.d s (part_at parts c.loop-k.k)) (c.loop-k.invariant.value lists are orders)
+          ∙ sym (fold_more (with_changed model lists c.args.paid.now.d)
+          (spread_of_kept model lists parts c.args.paid.now.d (length lists)) parts c.loop-k.k no_part low);
       range = e.range;
     }
 
 pub returns-clause-value : goal.returns-clause-value
 returns-clause-value c lists are orders =
     c.loop-k.invariant.value lists are orders
-    ∙ ap (fold (with_changed c.args.paid.now.early.now.model.now lists c.args.paid.now.d) (spread_of_kept c.args.paid.now.early.now.model.now lists c.args.paid.now.early.now.change.now c.args.paid.now.d (length lists))) (take_all c.loop-k.k c.args.paid.now.early.now.change.now (omega (arith, c.parts-k-end.ensures.value, c.loop-k-test.false)))
+    ∙ ap (fold (with_changed c.args.paid.now.early.now.model.now lists c.args.paid.now.d)
+    (spread_of_kept c.args.paid.now.early.now.model.now lists c.args.paid.now.early.now.change.now c.args.paid.now.d (length lists)))
+    (take_all c.loop-k.k c.args.paid.now.early.now.change.now (omega (arith, c.parts-k-end.ensures.value, c.loop-k-test.false)))

@@ -8,6 +8,8 @@ use Rattle.vr_costfilter.proofs.spreads.spread_after.Given as goal
 -- the lists so far are told
 abbrev pub invariant-loop-k : goal.invariant-loop-k
 invariant-loop-k l = record {
-  value : (lists : List (List ℕ)) → IsEarlyOf l.paid.early.now lists → AreOrders l.paid.early.now.model.now l.paid.d lists l.orders → l.spread ≡ fold (with_changed l.paid.early.now.model.now lists l.paid.d) (spread_of_kept l.paid.early.now.model.now lists l.paid.early.now.change.now l.paid.d (length lists)) (take l.k l.paid.early.now.change.now);
+  value : (lists : List (List ℕ)) → IsEarlyOf l.paid.early.now lists → AreOrders l.paid.early.now.model.now l.paid.d lists l.orders
+      → l.spread ≡ fold (with_changed l.paid.early.now.model.now lists l.paid.d)
+      (spread_of_kept l.paid.early.now.model.now lists l.paid.early.now.change.now l.paid.d (length lists)) (take l.k l.paid.early.now.change.now);
   range : IsSpreadInRange l.spread;
 }

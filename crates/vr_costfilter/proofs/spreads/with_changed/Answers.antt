@@ -24,7 +24,9 @@ returns-then-nodes_in-eq0-clause-value c lists are =
     let is : joined lists c.pieces.result.now ≡ joined lists part.pieces = ap (joined lists) c.pieces.ensures.value in
     let within = subst (All (IsWithin lists)) (sym c.pieces.ensures.value) (are.parts_are.each_within c.args.k no_part c.requires.part) in
     let none = c.nodes_in.ensures lists within ∙ ap length is in
-    sym (ap (λ b. cond b c.args.spread (reached-early c.args.paid.now.early.now.model.now c.args.paid.now.d part.vehicle (joined lists part.pieces) c.args.spread)) (empty_where (joined lists part.pieces) (omega (arith, none, c.if-nodes_in-eq0.true))))
+    sym (ap
+    (λ b. cond b c.args.spread (reached-early c.args.paid.now.early.now.model.now c.args.paid.now.d part.vehicle (joined lists part.pieces) c.args.spread))
+    (empty_where (joined lists part.pieces) (omega (arith, none, c.if-nodes_in-eq0.true))))
 
 pub returns-clause-value : goal.returns-clause-value
 returns-clause-value c lists are =

@@ -15,15 +15,23 @@ use Rattle.vr_descent.proofs.descending.descend.Goals.{In-Accepted}
 use Rattle.vr_descent.proofs.descending.descend.Goals as goal
 
 -- the scan accepted a move, which was made
-moved : (g : Over) (c : In-Accepted g) → Moved c.args.model.now takes_less c.args.limit c.scans.routes c.advance.new.routes c.scans.at c.advance.new.self c.in-Accepted.place c.in-Accepted.mv
+moved : (g : Over) (c : In-Accepted g)
+    → Moved c.args.model.now takes_less c.args.limit c.scans.routes c.advance.new.routes c.scans.at c.advance.new.self c.in-Accepted.place c.in-Accepted.mv
 moved g c =
     let gave = c.in_ok-ended.ensures in
-    has_moved c.args.model.now takes_less c.args.limit c.scans.routes c.advance.new.routes c.scans.at c.advance.new.self _ gave.ends gave.progress gave.routes c.in-Accepted.place c.in-Accepted.mv c.in-Accepted.difference c.in-Accepted.is
+    has_moved c.args.model.now takes_less c.args.limit c.scans.routes c.advance.new.routes c.scans.at c.advance.new.self
+    _ gave.ends gave.progress gave.routes c.in-Accepted.place c.in-Accepted.mv c.in-Accepted.difference c.in-Accepted.is
 
 pub returns-in_err-note_all-clause-told_in_part : goal.returns-in_err-note_all-clause-told_in_part
 returns-in_err-note_all-clause-told_in_part g c =
-    on_err c.from_residual.result (first_in_part (λ w. (goal.Watch-dyn g (w.vtable, w.value)).after w.value) (descent c.args.model.now c.args.routes.now.lists c.args.limit) (from_here c.args.model.now c.args.limit c.args.routes.now.lists 0 1) (first c.args.model.now c.args.routes.now.lists) (at_start c.args.model.now c.args.limit c.args.routes.now.lists) _ _
-    (subst (λ event. ReportedInPart (λ w. (goal.Watch-dyn g (w.vtable, w.value)).after w.value) c.args.watch.now.items c.note_all.new.watch.items (event ∷ [])) (first_event c.args.model.now c.requires.well_formed c.args.routes.now.lists c.requires.begins.judge.holds.valid c.args.first_cost c.requires.begins.first_cost c.event.result c.event.ensures) c.in_err-note_all.ensures.told_in_part))
+    on_err c.from_residual.result
+    (first_in_part (λ w. (goal.Watch-dyn g (w.vtable, w.value)).after w.value)
+    (descent c.args.model.now c.args.routes.now.lists c.args.limit) (from_here c.args.model.now c.args.limit c.args.routes.now.lists 0 1)
+    (first c.args.model.now c.args.routes.now.lists) (at_start c.args.model.now c.args.limit c.args.routes.now.lists) _ _
+    (subst
+    (λ event. ReportedInPart (λ w. (goal.Watch-dyn g (w.vtable, w.value)).after w.value) c.args.watch.now.items c.note_all.new.watch.items (event ∷ []))
+    (first_event c.args.model.now c.requires.well_formed c.args.routes.now.lists c.requires.begins.judge.holds.valid
+    c.args.first_cost c.requires.begins.first_cost c.event.result c.event.ensures) c.in_err-note_all.ensures.told_in_part))
 
 pub scans-init : goal.scans-init
 scans-init g c =
@@ -31,13 +39,19 @@ scans-init g c =
       model = c.requires.begins.judge.judge_model;
       holds = c.requires.begins.judge.holds;
       descends = record {
-        costs = cost_read c.args.model.now c.requires.well_formed c.args.routes.now.lists c.requires.begins.judge.holds.valid c.args.first_cost c.requires.begins.first_cost;
+        costs = cost_read c.args.model.now c.requires.well_formed c.args.routes.now.lists
+            c.requires.begins.judge.holds.valid c.args.first_cost c.requires.begins.first_cost;
         no_dearer = omega (arith, ints);
         used = omega arith;
         some = omega arith;
         found = c.requires.begins.limit.one_solution;
-        goes = first_told (λ w. (goal.Watch-dyn g (w.vtable, w.value)).after w.value) (descent c.args.model.now c.args.routes.now.lists c.args.limit) (from_here c.args.model.now c.args.limit c.args.routes.now.lists 0 1) (first c.args.model.now c.args.routes.now.lists) (at_start c.args.model.now c.args.limit c.args.routes.now.lists) _ _
-            (subst (λ event. Reported (λ w. (goal.Watch-dyn g (w.vtable, w.value)).after w.value) c.args.watch.now.items c.note_all.new.watch.items (event ∷ [])) (first_event c.args.model.now c.requires.well_formed c.args.routes.now.lists c.requires.begins.judge.holds.valid c.args.first_cost c.requires.begins.first_cost c.event.result c.event.ensures) c.in_ok-note_all.ensures.told);
+        goes = first_told (λ w. (goal.Watch-dyn g (w.vtable, w.value)).after w.value)
+            (descent c.args.model.now c.args.routes.now.lists c.args.limit) (from_here c.args.model.now c.args.limit c.args.routes.now.lists 0 1)
+            (first c.args.model.now c.args.routes.now.lists) (at_start c.args.model.now c.args.limit c.args.routes.now.lists) _ _
+            (subst
+            (λ event. Reported (λ w. (goal.Watch-dyn g (w.vtable, w.value)).after w.value) c.args.watch.now.items c.note_all.new.watch.items (event ∷ []))
+            (first_event c.args.model.now c.requires.well_formed c.args.routes.now.lists c.requires.begins.judge.holds.valid
+            c.args.first_cost c.requires.begins.first_cost c.event.result c.event.ensures) c.in_ok-note_all.ensures.told);
       };
       asked = asks_none _;
       known = nothing_refused c.args.model.now takes_less c.args.routes.now.lists c.of-known.result c.of-known.ensures.none;
@@ -71,7 +85,8 @@ advance-requires-clause-stays g c h =
 pub returns-in_err-ended-clause-told_in_part : goal.returns-in_err-ended-clause-told_in_part
 returns-in_err-ended-clause-told_in_part g c =
     on_err c.from_residual-in_err-ended.result
-    (scan_in_part (λ w. (goal.Watch-dyn g (w.vtable, w.value)).after w.value) c.args.model.now c.args.limit c.args.routes.now _ c.requires.begins.judge.holds _ _ c.scans.routes c.scans.at c.scans.invariant.descends _ c.scans-test.true c.in_err-ended.ensures.told_in_part)
+    (scan_in_part (λ w. (goal.Watch-dyn g (w.vtable, w.value)).after w.value) c.args.model.now c.args.limit c.args.routes.now _
+    c.requires.begins.judge.holds _ _ c.scans.routes c.scans.at c.scans.invariant.descends _ c.scans-test.true c.in_err-ended.ensures.told_in_part)
 
 pub returns-in_err-ended-clause-asked_at_most : goal.returns-in_err-ended-clause-asked_at_most
 returns-in_err-ended-clause-asked_at_most g c =
@@ -84,7 +99,9 @@ scans-preserved g c =
     record {
       model = gave.judge.judge_model;
       holds = gave.judge.holds;
-      descends = descends_on (λ w. (goal.Watch-dyn g (w.vtable, w.value)).after w.value) c.args.model.now c.args.limit c.args.routes.now _ c.requires.begins.judge.holds _ _ c.scans.routes c.scans.at c.scans.invariant.descends _ c.scans-test.true gave.told c.advance.new.routes c.advance.new.self c.in-Accepted.place c.in-Accepted.mv
+      descends = descends_on (λ w. (goal.Watch-dyn g (w.vtable, w.value)).after w.value) c.args.model.now c.args.limit
+          c.args.routes.now _ c.requires.begins.judge.holds _ _ c.scans.routes c.scans.at c.scans.invariant.descends
+          _ c.scans-test.true gave.told c.advance.new.routes c.advance.new.self c.in-Accepted.place c.in-Accepted.mv
           (moved g (goal.at.scans-preserved g c).In-Accepted);
       asked = for_then _ _ _ _ _ before.asked gave.asked;
       known = gave.known;
@@ -103,8 +120,11 @@ scans-smaller g c =
 pub returns-in-Complete-clause-ended : goal.returns-in-Complete-clause-ended
 returns-in-Complete-clause-ended g c =
     let done = c.in_ok-ended.ensures in
-    ends_complete (λ w. (goal.Watch-dyn g (w.vtable, w.value)).after w.value) c.args.model.now c.args.limit c.args.routes.now _ c.requires.begins.judge.holds _ _ c.scans.routes c.scans.at c.scans.invariant.descends _ c.scans-test.true done.told c.advance.new.routes c.advance.new.self c.in-Complete.length
-    (has_tried_all c.args.model.now takes_less c.args.limit c.scans.routes c.advance.new.routes c.scans.at c.advance.new.self _ c.in_ok-ended.ensures.ends c.in_ok-ended.ensures.progress c.in_ok-ended.ensures.routes c.in-Complete.length c.in-Complete.is) _ done.judge.holds c.report.result c.report.ensures
+    ends_complete (λ w. (goal.Watch-dyn g (w.vtable, w.value)).after w.value) c.args.model.now c.args.limit
+    c.args.routes.now _ c.requires.begins.judge.holds _ _ c.scans.routes c.scans.at c.scans.invariant.descends
+    _ c.scans-test.true done.told c.advance.new.routes c.advance.new.self c.in-Complete.length
+    (has_tried_all c.args.model.now takes_less c.args.limit c.scans.routes c.advance.new.routes c.scans.at c.advance.new.self _ c.in_ok-ended.ensures.ends
+    c.in_ok-ended.ensures.progress c.in_ok-ended.ensures.routes c.in-Complete.length c.in-Complete.is) _ done.judge.holds c.report.result c.report.ensures
 
 pub returns-in-Complete-clause-asked : goal.returns-in-Complete-clause-asked
 returns-in-Complete-clause-asked g c =
@@ -113,8 +133,11 @@ returns-in-Complete-clause-asked g c =
 -- .. where the tries ran out ..
 pub returns-in-Cut-clause-ended : goal.returns-in-Cut-clause-ended
 returns-in-Cut-clause-ended g c =
-    ends_cut (λ w. (goal.Watch-dyn g (w.vtable, w.value)).after w.value) c.args.model.now c.args.limit c.args.routes.now _ c.requires.begins.judge.holds _ _ c.scans.routes c.scans.at c.scans.invariant.descends _ c.scans-test.true c.in_ok-ended.ensures.told c.advance.new.routes c.advance.new.self
-    (has_run_out c.args.model.now takes_less c.args.limit c.scans.routes c.advance.new.routes c.scans.at c.advance.new.self _ c.in_ok-ended.ensures.ends c.in_ok-ended.ensures.progress c.in_ok-ended.ensures.routes c.in-Cut.is) _ c.in_ok-ended.ensures.judge.holds c.report-in-Cut.result c.report-in-Cut.ensures
+    ends_cut (λ w. (goal.Watch-dyn g (w.vtable, w.value)).after w.value) c.args.model.now c.args.limit c.args.routes.now _ c.requires.begins.judge.holds
+    _ _ c.scans.routes c.scans.at c.scans.invariant.descends _ c.scans-test.true c.in_ok-ended.ensures.told c.advance.new.routes c.advance.new.self
+    (has_run_out c.args.model.now takes_less c.args.limit c.scans.routes c.advance.new.routes c.scans.at c.advance.new.self
+    _ c.in_ok-ended.ensures.ends c.in_ok-ended.ensures.progress c.in_ok-ended.ensures.routes c.in-Cut.is) _
+    c.in_ok-ended.ensures.judge.holds c.report-in-Cut.result c.report-in-Cut.ensures
 
 pub returns-in-Cut-clause-asked : goal.returns-in-Cut-clause-asked
 returns-in-Cut-clause-asked g c =
@@ -123,7 +146,8 @@ returns-in-Cut-clause-asked g c =
 -- .. and where enough solutions were found
 pub returns-clause-ended : goal.returns-clause-ended
 returns-clause-ended g c =
-    ends_enough (λ w. (goal.Watch-dyn g (w.vtable, w.value)).after w.value) c.args.model.now c.args.limit c.args.routes.now _ c.requires.begins.judge.holds _ _ c.scans.routes c.scans.at c.scans.invariant.descends c.scans-test.false _ c.scans.invariant.holds c.report-2.result c.report-2.ensures
+    ends_enough (λ w. (goal.Watch-dyn g (w.vtable, w.value)).after w.value) c.args.model.now c.args.limit c.args.routes.now _ c.requires.begins.judge.holds
+    _ _ c.scans.routes c.scans.at c.scans.invariant.descends c.scans-test.false _ c.scans.invariant.holds c.report-2.result c.report-2.ensures
 
 pub returns-clause-asked : goal.returns-clause-asked
 returns-clause-asked g c =

@@ -13,7 +13,8 @@ abbrev pub invariant-scans : goal.invariant-scans
 invariant-scans g l = record {
   model : g.J.Judge.model l.judge ≡ l.model;
   holds : HasCommitted l.model (g.J.Judge.committed l.judge) l.routes;
-  descends : Descends (λ w. (goal.Watch-dyn g (w.vtable, w.value)).after w.value) l.model l.limit l.fn.routes.lists l.fn.watch.items l.watch.items l.routes l.at;
+  descends : Descends (λ w. (goal.Watch-dyn g (w.vtable, w.value)).after w.value)
+      l.model l.limit l.fn.routes.lists l.fn.watch.items l.watch.items l.routes l.at;
   asked : AsksFor g.J.Judge.asked g.J.Judge.looked l.fn.judge l.judge l.at.used;
   known : AreRefused l.model takes_less l.routes.lists l.known;
   learns : Learns l.known → HasNoGlobalSpans l.model;

@@ -10,5 +10,6 @@ loop-d-preserved c =
     let P = λ (d : ℕ) (floors : Floors). AreFloors c.args.closed.model.now d floors in
     rw c.in_ok-push.ensures.items (record {
       many = length-append c.loop-d.floors.items _ ∙ ap (λ n. n + 1) m.many;
-      each = λ d other low. each-push P c.loop-d.floors.items c.in_ok-of.field-0 m.each (subst (λ n. P n c.in_ok-of.field-0) (sym m.many) c.in_ok-of.ensures) d other low;
+      each = λ d other low. each-push P c.loop-d.floors.items c.in_ok-of.field-0 m.each
+          (subst (λ n. P n c.in_ok-of.field-0) (sym m.many) c.in_ok-of.ensures) d other low;
     })

@@ -21,7 +21,8 @@ loop-d-preserved c =
       many = length-set c.loop-d.kept at c.write.new.self ∙ i.many;
       written = λ lists all known.
           let h = i.written lists all known in
-          written-more (λ d (ones : List KeptWays). HaveWays m d (with_route lists c.args.v c.args.list.now) ones) (λ d (ones : List KeptWays). HaveWays m d lists ones) at c.loop-d.kept h inside c.write.new.self
+          written-more (λ d (ones : List KeptWays). HaveWays m d (with_route lists c.args.v c.args.list.now) ones)
+          (λ d (ones : List KeptWays). HaveWays m d lists ones) at c.loop-d.kept h inside c.write.new.self
           (c.write.ensures lists (h.left at c.index-kept-d.result (omega arith) inside) known);
     }
 

@@ -9,5 +9,6 @@ abbrev pub invariant-loop-d : goal.invariant-loop-d
 invariant-loop-d l = record {
   many : length l.kept ≡ length l.closed.model.now.dimensions;
   written : (lists : List (List ℕ)) → HaveAllWays l.closed.model.now lists l.fn.kept → l.v < length lists
-      → AreWrittenTo (λ d (ones : List KeptWays). HaveWays l.closed.model.now d (with_route lists l.v l.list) ones) (λ d (ones : List KeptWays). HaveWays l.closed.model.now d lists ones) l.d l.kept;
+      → AreWrittenTo (λ d (ones : List KeptWays). HaveWays l.closed.model.now d (with_route lists l.v l.list) ones)
+      (λ d (ones : List KeptWays). HaveWays l.closed.model.now d lists ones) l.d l.kept;
 }

@@ -8,4 +8,5 @@ use Rattle.vr_earliest.proofs.floors.free_of.Goals as goal
 pub loop-v-preserved : goal.loop-v-preserved
 loop-v-preserved c =
     let is = c.starts_freely.ensures ∙ ap (λ (x : Vehicle). starts_freely x c.args.dimension.now c.loop-v.v) (sym (c.get.ensures.value no_vehicle)) in
-    free-more c.args.vehicles.now c.args.dimension.now c.loop-v.v c.loop-v.free.items c.push.new.self.items c.starts_freely.result c.loop-v.invariant is c.in_ok-push.ensures.items
+    free-more c.args.vehicles.now c.args.dimension.now c.loop-v.v c.loop-v.free.items
+    c.push.new.self.items c.starts_freely.result c.loop-v.invariant is c.in_ok-push.ensures.items

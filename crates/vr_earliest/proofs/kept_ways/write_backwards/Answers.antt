@@ -15,7 +15,8 @@ loop-k-preserved g c =
     let list = c.args.list.now in
     let k = c.loop-k.k in
     let e = c.rest_before-rest.ensures in
-    let here = come-on (λ n. back_from end before (drop (length list - n) list)) (λ rest. before (slice_index_or list (length list - 1 - k) 0) rest) k (sym (rest-next end before list k c.loop-k-test.true)) c.loop-k.invariant.rests c.loop-k.invariant.rest e.value c.push-in-loop-k.ensures.items in
+    let here = come-on (λ n. back_from end before (drop (length list - n) list)) (λ rest. before (slice_index_or list (length list - 1 - k) 0) rest) k
+    (sym (rest-next end before list k c.loop-k-test.true)) c.loop-k.invariant.rests c.loop-k.invariant.rest e.value c.push-in-loop-k.ensures.items in
     record {
       rests = here.are;
       rest = here.last_is;

@@ -15,7 +15,8 @@ loop-k-preserved g c =
     let list = c.args.list.now in
     let k = c.loop-k.k in
     let e = c.way_to_visit-way.ensures in
-    let here = come-on (λ n. fold on start (take n list)) (λ way. on way (slice_index_or list k 0)) k (sym (fold_more on start list k 0 c.loop-k-test.true)) c.loop-k.invariant.ways c.loop-k.invariant.way e.value c.push-in-loop-k.ensures.items in
+    let here = come-on (λ n. fold on start (take n list)) (λ way. on way (slice_index_or list k 0)) k
+    (sym (fold_more on start list k 0 c.loop-k-test.true)) c.loop-k.invariant.ways c.loop-k.invariant.way e.value c.push-in-loop-k.ensures.items in
     record {
       ways = here.are;
       way = here.last_is;

@@ -10,7 +10,8 @@ way_to_visit-gone-requires-clause-node g c =
 
 pub way_to_visit-gone-requires-clause-way : goal.way_to_visit-gone-requires-clause-way
 way_to_visit-gone-requires-clause-way g c =
-    g.met.G.Walk.way_grows c.args.walk.now (9000 + c.loop-k.k) 10000 c.loop-k.gone (omega (arith, c.requires.few, c.loop-k-test.true)) (c.loop-k.invariant.range 9000 c.requires.way)
+    g.met.G.Walk.way_grows c.args.walk.now (9000 + c.loop-k.k) 10000 c.loop-k.gone
+    (omega (arith, c.requires.few, c.loop-k-test.true)) (c.loop-k.invariant.range 9000 c.requires.way)
 
 pub loop-k-preserved : goal.loop-k-preserved
 loop-k-preserved g c =
@@ -21,7 +22,8 @@ loop-k-preserved g c =
     let e = c.way_to_visit-gone.ensures in
     let long = ordered-long c.args.reversed c.args.chain.now in
     record {
-      value = e.value ∙ ap₂ (λ way node. on way node) i.value c.node_in.ensures ∙ sym (fold_more on c.args.way nodes k 0 (omega (arith, long, c.loop-k-test.true)));
+      value = e.value ∙ ap₂ (λ way node. on way node) i.value c.node_in.ensures
+          ∙ sym (fold_more on c.args.way nodes k 0 (omega (arith, long, c.loop-k-test.true)));
       range = λ n is. e.range (n + k) (n + (k + 1)) (omega arith) (i.range n is);
     }
 

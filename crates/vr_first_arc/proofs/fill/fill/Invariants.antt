@@ -8,7 +8,8 @@ use Rattle.vr_first_arc.proofs.fill.fill.Given as goal
 -- what is filled from here with the steps that are left is what is filled from the start with all of them
 abbrev pub invariant-loop-step : goal.invariant-loop-step
 invariant-loop-step l = record {
-  fills : filled l.filling.lookups.now.closed.model.now l.v (length l.filling.candidates.now - l._step) l.lists ≡ filled l.filling.lookups.now.closed.model.now l.v (length l.filling.candidates.now) l.initial.lists;
+  fills : filled l.filling.lookups.now.closed.model.now l.v (length l.filling.candidates.now - l._step) l.lists
+      ≡ filled l.filling.lookups.now.closed.model.now l.v (length l.filling.candidates.now) l.initial.lists;
   count : length l.lists ≡ length l.initial.lists;
   fronts : AreFrontsOf l.filling.lookups.now.closed.model.now l.v (route l.lists l.v) l.fronts;
   built : AreBuilt l.filling.lookups.now.closed.model.now l.lists;

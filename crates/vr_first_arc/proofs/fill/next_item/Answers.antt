@@ -21,7 +21,8 @@ abbrev unread : Candidate
 unread = record { item = Visit 0; class = 0 }
 
 pub loop-candidate-init : goal.loop-candidate-init
-loop-candidate-init c = best-begin c.args.filling.now.lookups.now.closed.model.now c.args.lists.now c.args.v c.requires.built c.requires.vehicle c.args.filling.now.lookups.now.closed.well_formed c.args.marks.now c.requires.marks c.args.filling.now.candidates.now
+loop-candidate-init c = best-begin c.args.filling.now.lookups.now.closed.model.now c.args.lists.now c.args.v c.requires.built
+    c.requires.vehicle c.args.filling.now.lookups.now.closed.well_formed c.args.marks.now c.requires.marks c.args.filling.now.candidates.now
 
 pub consider_candidate-requires-clause-growing : goal.consider_candidate-requires-clause-growing
 consider_candidate-requires-clause-growing c =
@@ -29,7 +30,8 @@ consider_candidate-requires-clause-growing c =
     let lists = c.args.lists.now in
     let v = c.args.v in
     let many = built-count model lists c.requires.built in
-    let list : c.as_slice-list.result.now ≡ route lists v = list_at lists v c.as_slice-list.result.now c.index-lists-v.result c.as_slice-list.ensures c.index-lists-v.is c.requires.vehicle in
+    let list : c.as_slice-list.result.now ≡ route lists v = list_at lists v c.as_slice-list.result.now
+    c.index-lists-v.result c.as_slice-list.ensures c.index-lists-v.is c.requires.vehicle in
     let Below : ℕ → Type 0 = λ node. node < model.nodes in
     record {
       filling = c.requires.filling;
@@ -47,9 +49,11 @@ consider_candidate-requires-clause-longer c =
     let lists = c.args.lists.now in
     let candidate : Candidate = get_or c.args.filling.now.candidates.now c.loop-candidate.candidate-index unread in
     let valid : IsCandidate model candidate = c.requires.filling.each c.loop-candidate.candidate-index unread c.loop-candidate-test.true in
-    let list : c.as_slice-list.result.now ≡ route lists c.args.v = list_at lists c.args.v c.as_slice-list.result.now c.index-lists-v.result c.as_slice-list.ensures c.index-lists-v.is c.requires.vehicle in
+    let list : c.as_slice-list.result.now ≡ route lists c.args.v = list_at lists c.args.v c.as_slice-list.result.now
+    c.index-lists-v.result c.as_slice-list.ensures c.index-lists-v.is c.requires.vehicle in
     λ free. subst (λ list. IsDriven model (list ++ item_nodes candidate.item)) (sym list)
-    (IsDriven-item model lists c.args.v c.requires.built c.requires.vehicle candidate.item valid.item (inactive_by model lists c.args.marks.now c.requires.marks candidate.item valid.item free))
+    (IsDriven-item model lists c.args.v c.requires.built c.requires.vehicle candidate.item valid.item
+    (inactive_by model lists c.args.marks.now c.requires.marks candidate.item valid.item free))
 
 pub loop-candidate-preserved : goal.loop-candidate-preserved
 loop-candidate-preserved c =
@@ -58,15 +62,18 @@ loop-candidate-preserved c =
     let i : ℕ = c.loop-candidate.candidate-index in
     let candidate : Candidate = get_or c.args.filling.now.candidates.now i unread in
     let valid : IsCandidate model candidate = c.requires.filling.each i unread c.loop-candidate-test.true in
-    let list : c.as_slice-list.result.now ≡ route lists c.args.v = list_at lists c.args.v c.as_slice-list.result.now c.index-lists-v.result c.as_slice-list.ensures c.index-lists-v.is c.requires.vehicle in
-    best-more model lists c.args.v c.requires.built c.requires.vehicle c.args.filling.now.lookups.now.closed.well_formed c.args.marks.now c.requires.marks c.args.filling.now.candidates.now i candidate c.loop-candidate.best _
+    let list : c.as_slice-list.result.now ≡ route lists c.args.v = list_at lists c.args.v c.as_slice-list.result.now
+    c.index-lists-v.result c.as_slice-list.ensures c.index-lists-v.is c.requires.vehicle in
+    best-more model lists c.args.v c.requires.built c.requires.vehicle c.args.filling.now.lookups.now.closed.well_formed
+    c.args.marks.now c.requires.marks c.args.filling.now.candidates.now i candidate c.loop-candidate.best _
     c.loop-candidate-test.true (get_or_default c.args.filling.now.candidates.now i candidate unread c.loop-candidate-test.true) valid c.loop-candidate.invariant
     (c.in_ok-best.ensures ∙ ap (λ list. chosen_beside model c.args.v list c.args.marks.now candidate c.loop-candidate.best) list)
 
 pub returns-clause-next : goal.returns-clause-next
 returns-clause-next c =
     ap (option_map item_nodes) c.item_of.ensures
-    ∙ best-end c.args.filling.now.lookups.now.closed.model.now c.args.lists.now c.args.v c.requires.built c.requires.vehicle c.args.filling.now.lookups.now.closed.well_formed c.args.marks.now c.requires.marks c.args.filling.now.candidates.now c.loop-candidate.candidate-index
+    ∙ best-end c.args.filling.now.lookups.now.closed.model.now c.args.lists.now c.args.v c.requires.built c.requires.vehicle
+    c.args.filling.now.lookups.now.closed.well_formed c.args.marks.now c.requires.marks c.args.filling.now.candidates.now c.loop-candidate.candidate-index
     c.loop-candidate.best c.requires.filling c.loop-candidate-test.false c.loop-candidate.invariant
 
 pub returns-clause-may : goal.returns-clause-may

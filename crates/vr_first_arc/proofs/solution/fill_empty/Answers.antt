@@ -6,7 +6,8 @@ use Rattle.vr_first_arc.specs.Choices.{all_filled}
 use Rattle.vr_first_arc.proofs.solution.fill_empty.Goals as goal
 
 pub fill_all-requires-clause-built : goal.fill_all-requires-clause-built
-fill_all-requires-clause-built c = subst (AreBuilt c.args.lookups.now.closed.model.now) (sym c.requires.empty) (AreBuilt-empty c.args.lookups.now.closed.model.now)
+fill_all-requires-clause-built c =
+    subst (AreBuilt c.args.lookups.now.closed.model.now) (sym c.requires.empty) (AreBuilt-empty c.args.lookups.now.closed.model.now)
 
 pub fill_all-requires-clause-marks : goal.fill_all-requires-clause-marks
 fill_all-requires-clause-marks c =

@@ -13,7 +13,8 @@ invariant_of-list c =
     let model = c.args.on.now.items.lookups.now.closed.model.now in
     let lists = c.args.on.now.lists.now in
     let v : ℕ = c.args.v in
-    let list : c.as_slice-nodes.result.now ≡ route lists v = list_at lists v c.as_slice-nodes.result.now c.index-lists-v.result c.as_slice-nodes.ensures c.index-lists-v.is c.requires.there in
+    let list : c.as_slice-nodes.result.now ≡ route lists v = list_at lists v c.as_slice-nodes.result.now
+    c.index-lists-v.result c.as_slice-nodes.ensures c.index-lists-v.is c.requires.there in
     let may = c.requires.may_hold v c.requires.there in
     let tour : IsTour model c.as_slice-nodes.result.now = subst (IsTour model) (sym list) (record { visits = may.visits; distinct = may.distinct }) in
     let low = c.requires.there in
@@ -24,8 +25,13 @@ pub invariant_of-of : goal.invariant_of-of
 invariant_of-of c =
     let lists = c.args.on.now.lists.now in
     let v : ℕ = c.args.v in
-    let list : c.as_slice-nodes.result.now ≡ route lists v = list_at lists v c.as_slice-nodes.result.now c.index-lists-v.result c.as_slice-nodes.ensures c.index-lists-v.is c.requires.there in
-    record { may_hold = subst (λ list. MayHold c.args.on.now.items.lookups.now.closed.model.now list (candidate_at c.args.on.now.items.candidates.now c.args.i).item) (sym list) (c.requires.may_hold v c.requires.there) }
+    let list : c.as_slice-nodes.result.now ≡ route lists v = list_at lists v c.as_slice-nodes.result.now
+    c.index-lists-v.result c.as_slice-nodes.ensures c.index-lists-v.is c.requires.there in
+    record {
+      may_hold =
+          subst (λ list. MayHold c.args.on.now.items.lookups.now.closed.model.now list (candidate_at c.args.on.now.items.candidates.now c.args.i).item)
+          (sym list) (c.requires.may_hold v c.requires.there);
+    }
 
 pub returns : goal.returns
 returns c =
@@ -33,7 +39,9 @@ returns c =
     let lists = c.args.on.now.lists.now in
     let v : ℕ = c.args.v in
     let candidate = candidate_at c.args.on.now.items.candidates.now c.args.i in
-    let list : c.as_slice-nodes.result.now ≡ route lists v = list_at lists v c.as_slice-nodes.result.now c.index-lists-v.result c.as_slice-nodes.ensures c.index-lists-v.is c.requires.there in
+    let list : c.as_slice-nodes.result.now ≡ route lists v = list_at lists v c.as_slice-nodes.result.now
+    c.index-lists-v.result c.as_slice-nodes.ensures c.index-lists-v.is c.requires.there in
     let fits : to_z w64 (of_z w64 c.least_in.result) ≡ c.least_in.result = search rules in
     subst (BestAddsAtLeast model v (route lists v) candidate) (sym fits)
-    (subst (λ l. BestAddsAtLeast model v l candidate c.least_in.result) list (best-adds model v c.as_slice-nodes.result.now candidate c.least_in.result c.least_in.ensures))
+    (subst (λ l. BestAddsAtLeast model v l candidate c.least_in.result) list
+    (best-adds model v c.as_slice-nodes.result.now candidate c.least_in.result c.least_in.ensures))

@@ -21,7 +21,8 @@ settle-requires c =
       candidate = c.requires.candidate;
       may_hold = c.requires.may_hold;
       there = there;
-      row = subst (AreCandidatesKnown model v (route lists v) c.args.on.now.items.candidates.now) (get_or_default known_items v [] c.index-known_items-v.result (omega (arith, many, there))) (known.each v there);
+      row = subst (AreCandidatesKnown model v (route lists v) c.args.on.now.items.candidates.now)
+          (get_or_default known_items v [] c.index-known_items-v.result (omega (arith, many, there))) (known.each v there);
     }
 
 pub loop-v-preserved : goal.loop-v-preserved
@@ -33,5 +34,6 @@ loop-v-preserved c =
     record {
       best = c.in_ok-best.ensures.best
           ∙ ap (best_in model v (route lists v) candidate) c.loop-v.invariant.best ∙ sym (best_in_lists-more model lists candidate v c.args.best);
-      known = row-written model lists c.args.on.now.items.candidates.now c.loop-v.known_items v c.settle.new.known_here c.loop-v.invariant.known c.in_ok-best.ensures.known;
+      known = row-written model lists c.args.on.now.items.candidates.now c.loop-v.known_items
+          v c.settle.new.known_here c.loop-v.invariant.known c.in_ok-best.ensures.known;
     }

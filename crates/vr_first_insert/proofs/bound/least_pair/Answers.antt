@@ -22,7 +22,9 @@ loop-s-init c =
       least = λ s low t within.
           let zero : s ≡ 0 = omega (arith, low) in
           let here = first.least t within in
-          subst (λ s. to_z w64 (of_z w64 c.least_behind-least.result) ≤ℤ pair_increase c.args.list.now.lookups.now.closed.model.now c.args.list.now.vehicle c.args.list.now.nodes.now c.args.pickup c.args.delivery s t) (sym zero)
+          subst (λ s. to_z w64 (of_z w64 c.least_behind-least.result)
+          ≤ℤ pair_increase c.args.list.now.lookups.now.closed.model.now c.args.list.now.vehicle c.args.list.now.nodes.now c.args.pickup c.args.delivery s t)
+          (sym zero)
           (omega (arith, ints, here, first.low, first.high));
       low = omega (arith, ints, first.low, first.high);
       high = omega (arith, ints, first.low, first.high);
@@ -36,9 +38,12 @@ loop-s-preserved c =
     let next = c.least_behind.ensures in
     let least = c.min-least.ensures in
     record {
-      least = below_more (λ s. (t : ℕ) → t ≤ length list → to_z w64 (of_z w64 c.min-least.result) ≤ℤ pair_increase model c.args.list.now.vehicle list c.args.pickup c.args.delivery s t) c.loop-s.s
-          (λ s low t within. let before = so_far.least s low t within in omega (arith, ints, before, so_far.low, so_far.high, next.low, next.high, least.value, least.self_bound, least.other_bound))
-          (λ t within. let here = next.least t within in omega (arith, ints, here, so_far.low, so_far.high, next.low, next.high, least.value, least.self_bound, least.other_bound));
+      least = below_more (λ s. (t : ℕ) → t ≤ length list
+          → to_z w64 (of_z w64 c.min-least.result) ≤ℤ pair_increase model c.args.list.now.vehicle list c.args.pickup c.args.delivery s t) c.loop-s.s
+          (λ s low t within. let before = so_far.least s low t within in
+          omega (arith, ints, before, so_far.low, so_far.high, next.low, next.high, least.value, least.self_bound, least.other_bound))
+          (λ t within. let here = next.least t within in
+          omega (arith, ints, here, so_far.low, so_far.high, next.low, next.high, least.value, least.self_bound, least.other_bound));
       low = omega (arith, ints, int_min_is, so_far.low, so_far.high, next.low, next.high, least.value, least.self_bound, least.other_bound);
       high = omega (arith, ints, so_far.low, so_far.high, next.low, next.high, least.value, least.self_bound, least.other_bound);
     }

@@ -6,7 +6,8 @@ use Rattle.vr_first_insert.proofs.bound.least_pair.Given as goal
 -- the least of the places of the pickup so far
 abbrev pub invariant-loop-s : goal.invariant-loop-s
 invariant-loop-s l = record {
-  least : (s : ℕ) → s < l.s → (t : ℕ) → t ≤ length l.list.nodes.now → l.least ≤ℤ pair_increase l.list.lookups.now.closed.model.now l.list.vehicle l.list.nodes.now l.pickup l.delivery s t;
+  least : (s : ℕ) → s < l.s → (t : ℕ) → t ≤ length l.list.nodes.now
+      → l.least ≤ℤ pair_increase l.list.lookups.now.closed.model.now l.list.vehicle l.list.nodes.now l.pickup l.delivery s t;
   low : neg_ℤ (pos (2 ^ 41)) ≤ℤ l.least;
   high : l.least ≤ℤ pos (2 ^ 42);
 }

@@ -19,7 +19,8 @@ loop-t-preserved c =
 pub returns : goal.returns
 returns c =
     let list = c.args.list.now.nodes.now in
-    let first : IsLeastOf (visit_increase c.args.list.now.lookups.now.closed.model.now c.args.list.now.vehicle list c.args.node) c.loop-t.t c.loop-t.at.place = c.loop-t.invariant.first in
+    let first : IsLeastOf (visit_increase c.args.list.now.lookups.now.closed.model.now c.args.list.now.vehicle list c.args.node)
+    c.loop-t.t c.loop-t.at.place = c.loop-t.invariant.first in
     let end : c.loop-t.t ≡ suc (length list) = omega arith in
     let earlier = first.earlier in
     record {

@@ -22,10 +22,12 @@ loop-k-preserved c =
     let within : k ≤ length list = omega arith in
     let low_one : x ≤ℤ old = omega (arith, ints, so_far.low, so_far.high, next.low, next.high, least.value, least.self_bound, least.other_bound) in
     let low_two : x ≤ℤ here = omega (arith, ints, so_far.low, so_far.high, next.low, next.high, least.value, least.self_bound, least.other_bound) in
-    let low : neg_ℤ (pos (2 ^ 40)) ≤ℤ x = omega (arith, ints, int_min_is, so_far.low, so_far.high, next.low, next.high, least.value, least.self_bound, least.other_bound) in
+    let low : neg_ℤ (pos (2 ^ 40)) ≤ℤ x =
+    omega (arith, ints, int_min_is, so_far.low, so_far.high, next.low, next.high, least.value, least.self_bound, least.other_bound) in
     let high : x ≤ℤ pos (2 ^ 41) = omega (arith, ints, so_far.low, so_far.high, next.low, next.high, least.value, least.self_bound, least.other_bound) in
     let more = ahead-more model v list node k old here x within low_one low_two next.value so_far.least in
-    let fits : x ≡ c.min-least.result = omega (arith, ints, low, high, so_far.low, so_far.high, next.low, next.high, least.value, least.self_bound, least.other_bound) in
+    let fits : x ≡ c.min-least.result =
+    omega (arith, ints, low, high, so_far.low, so_far.high, next.low, next.high, least.value, least.self_bound, least.other_bound) in
     let fits_too : to_z w64 (of_z w64 here) ≡ here = omega (arith, ints, next.low, next.high) in
     let one = min-one-of old here x c.min-least.result (to_z w64 (of_z w64 here)) fits fits_too least.value in
     let added = added-more model v list node k old here x within one next.value so_far.added in

@@ -21,7 +21,8 @@ invariant_of-new c =
     let lists = c.args.routes.now.lists in
     let v : ℕ = c.loop-v.v in
     let count = built-count model lists c.requires.built in
-    let tour : IsTour model c.list.result.now = subst (IsTour model) (sym c.list.ensures.value) (record { visits = built-visits model lists v c.requires.built; distinct = built-distinct model lists v c.requires.built }) in
+    let tour : IsTour model c.list.result.now = subst (IsTour model) (sym c.list.ensures.value)
+    (record { visits = built-visits model lists v c.requires.built; distinct = built-distinct model lists v c.requires.built }) in
     record {
       there = omega (arith, c.loop-v-test.true, c.vehicles-v-end.ensures.value, count);
       tour = tour;

@@ -19,4 +19,5 @@ forget-requires c = record { vehicle = c.requires.known }
 pub returns-clause-known : goal.returns-clause-known
 returns-clause-known c = λ known are.
     subst (λ lists. AreKnownRows c.args.new.now.lookups.now.closed.model.now lists known c.forget.new.known_items) (sym c.in_ok-change_list.ensures.lists)
-    (rows-forgotten c.args.new.now.lookups.now.closed.model.now c.args.lists.now known c.args.known_items.now c.forget.new.known_items c.args.new.now.vehicle c.args.new.now.nodes.now c.requires.there are c.forget.ensures)
+    (rows-forgotten c.args.new.now.lookups.now.closed.model.now c.args.lists.now known c.args.known_items.now
+    c.forget.new.known_items c.args.new.now.vehicle c.args.new.now.nodes.now c.requires.there are c.forget.ensures)

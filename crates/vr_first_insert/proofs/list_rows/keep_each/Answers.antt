@@ -11,5 +11,6 @@ loop-d-preserved c =
     let P = λ (d : ℕ) (kept : ListRows). AreKeptRowsIn c.args.lookups.now.closed.model.now d c.args.lists.now kept in
     rw c.in_ok-push.ensures.items (record {
       long = length-append c.loop-d.list_rows.items _ ∙ ap (λ n. n + 1) m.long;
-      each = λ d other lt. each_push P c.loop-d.list_rows.items c.in_ok-build.field-0 m.each (subst (λ n. P n c.in_ok-build.field-0) (sym m.long) c.in_ok-build.ensures) d other lt;
+      each = λ d other lt. each_push P c.loop-d.list_rows.items c.in_ok-build.field-0 m.each
+          (subst (λ n. P n c.in_ok-build.field-0) (sym m.long) c.in_ok-build.ensures) d other lt;
     })

@@ -8,5 +8,6 @@ use Rattle.vr_first_insert.proofs.list_rows.keep_each.Given as goal
 abbrev pub invariant-loop-d : goal.invariant-loop-d
 invariant-loop-d l = record {
   long : length l.list_rows.items ≡ l.d;
-  each : (d : ℕ) (other : ListRows) → d < length l.list_rows.items → AreKeptRowsIn l.lookups.closed.model.now d l.lists (slice_index_or l.list_rows.items d other);
+  each : (d : ℕ) (other : ListRows) → d < length l.list_rows.items
+      → AreKeptRowsIn l.lookups.closed.model.now d l.lists (slice_index_or l.list_rows.items d other);
 }

@@ -9,6 +9,8 @@ use Rattle.vr_first_insert.proofs.list_rows.rewrite.Given as goal
 abbrev pub invariant-loop-d : goal.invariant-loop-d
 invariant-loop-d l = record {
   long : length l.list_rows ≡ length l.initial.list_rows;
-  done : (d : ℕ) (other : ListRows) → d < l.d → d < length l.list_rows → AreKeptRowsIn l.new.lookups.now.closed.model.now d (with_route l.lists l.new.vehicle l.new.nodes.now) (slice_index_or l.list_rows d other);
-  left : (d : ℕ) (other : ListRows) → l.d ≤ d → d < length l.list_rows → AreKeptRowsIn l.new.lookups.now.closed.model.now d l.lists (slice_index_or l.list_rows d other);
+  done : (d : ℕ) (other : ListRows) → d < l.d → d < length l.list_rows
+      → AreKeptRowsIn l.new.lookups.now.closed.model.now d (with_route l.lists l.new.vehicle l.new.nodes.now) (slice_index_or l.list_rows d other);
+  left : (d : ℕ) (other : ListRows) → l.d ≤ d → d < length l.list_rows
+      → AreKeptRowsIn l.new.lookups.now.closed.model.now d l.lists (slice_index_or l.list_rows d other);
 }

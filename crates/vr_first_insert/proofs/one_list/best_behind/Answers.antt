@@ -21,20 +21,23 @@ leave-requires c =
     record {
       kept = c.requires.ready.ready.kept;
       used = half-used begun.pair begun.s begun.half.now begun.within begun.picked_up;
-      front = subst (λ new. SharesFront begun.pair.list.nodes.now new begun.s) (sym begun.picked_up) (visit_front begun.pair.list.nodes.now begun.s begun.pair.pickup begun.within);
+      front = subst (λ new. SharesFront begun.pair.list.nodes.now new begun.s) (sym begun.picked_up)
+          (visit_front begun.pair.list.nodes.now begun.s begun.pair.pickup begun.within);
     }
 
 pub go_on-requires : goal.go_on-requires
 go_on-requires c =
     let begun = c.args.begun.now in
-    half-goes_on begun.pair begun.s (begun.s + 1) begun.half.now c.leave.new.self begun.within begun.picked_up (let within = begun.within in omega (arith, within)) c.in_ok-leave.ensures
+    half-goes_on begun.pair begun.s (begun.s + 1) begun.half.now c.leave.new.self begun.within
+    begun.picked_up (let within = begun.within in omega (arith, within)) c.in_ok-leave.ensures
 
 pub weigh_pair-requires : goal.weigh_pair-requires
 weigh_pair-requires c = record {
   ready = c.requires.ready.ready;
   order = omega arith;
   within = c.args.begun.now.within;
-  here = subst (λ half. AreReachedAt c.args.begun.now.pair.list.lookups.now.closed.model.now c.args.begun.now.pair.list.vehicle half (c.args.begun.now.s + 1) c.leave.new.self) c.args.begun.now.picked_up c.in_ok-leave.ensures;
+  here = subst (λ half. AreReachedAt c.args.begun.now.pair.list.lookups.now.closed.model.now c.args.begun.now.pair.list.vehicle
+      half (c.args.begun.now.s + 1) c.leave.new.self) c.args.begun.now.picked_up c.in_ok-leave.ensures;
   longer = c.in_ok-write_placed.ensures;
 }
 
@@ -57,28 +60,36 @@ best_further-requires-clause-longer c =
     let pair : Pair = record { pickup = c.args.begun.now.pair.pickup; delivery = c.args.begun.now.pair.delivery } in
     let next : suc s ≡ s + 1 = omega arith in
     c.in_ok-near.ensures.longer ∙ c.in_ok-write_placed.ensures
-    ∙ pair_is pair list s s (omega arith) c.args.begun.now.within ∙ ap (λ n. insert (insert list s c.args.begun.now.pair.pickup) n c.args.begun.now.pair.delivery) next
+    ∙ pair_is pair list s s (omega arith) c.args.begun.now.within
+    ∙ ap (λ n. insert (insert list s c.args.begun.now.pair.pickup) n c.args.begun.now.pair.delivery) next
     ∙ ap (λ l. insert l (s + 1) c.args.begun.now.pair.delivery) (sym c.args.begun.now.picked_up)
 
 pub best_further-requires-clause-here : goal.best_further-requires-clause-here
 best_further-requires-clause-here c =
     let next : c.args.begun.now.s + 1 + 1 ≡ c.args.begun.now.s + 2 = omega arith in
-    subst (λ k. AreReachedAt c.args.begun.now.pair.list.lookups.now.closed.model.now c.args.begun.now.pair.list.vehicle c.args.begun.now.half.now k c.go_on.new.self) next c.in_ok-go_on.ensures
+    subst (λ k. AreReachedAt c.args.begun.now.pair.list.lookups.now.closed.model.now
+    c.args.begun.now.pair.list.vehicle c.args.begun.now.half.now k c.go_on.new.self) next c.in_ok-go_on.ensures
 
 pub returns-then-is_stuck : goal.returns-then-is_stuck
 returns-then-is_stuck c =
-    deliveries-stuck c.args.begun.now.pair.list.lookups.now.closed.model.now c.args.begun.now.pair.list.vehicle c.args.begun.now.pair.list.nodes.now c.args.begun.now.pair.class c.args.begun.now.pair.pickup c.args.begun.now.pair.delivery c.args.begun.now.s c.args.begun.now.s c.args.best c.leave.new.self c.args.begun.now.pair.list.there c.args.begun.now.pair.may_hold (omega arith) c.args.begun.now.within
-    (subst (λ half. AreReachedAt c.args.begun.now.pair.list.lookups.now.closed.model.now c.args.begun.now.pair.list.vehicle half (c.args.begun.now.s + 1) c.leave.new.self) c.args.begun.now.picked_up c.in_ok-leave.ensures) (c.is_stuck.ensures.no_end c.if-is_stuck.true)
+    deliveries-stuck c.args.begun.now.pair.list.lookups.now.closed.model.now c.args.begun.now.pair.list.vehicle c.args.begun.now.pair.list.nodes.now
+    c.args.begun.now.pair.class c.args.begun.now.pair.pickup c.args.begun.now.pair.delivery c.args.begun.now.s c.args.begun.now.s
+    c.args.best c.leave.new.self c.args.begun.now.pair.list.there c.args.begun.now.pair.may_hold (omega arith) c.args.begun.now.within
+    (subst (λ half. AreReachedAt c.args.begun.now.pair.list.lookups.now.closed.model.now c.args.begun.now.pair.list.vehicle half
+    (c.args.begun.now.s + 1) c.leave.new.self) c.args.begun.now.picked_up c.in_ok-leave.ensures) (c.is_stuck.ensures.no_end c.if-is_stuck.true)
 
 pub returns-then-not-may_improve : goal.returns-then-not-may_improve
 returns-then-not-may_improve c =
     let model = c.args.begun.now.pair.list.lookups.now.closed.model.now in
     let list = c.args.begun.now.pair.list.nodes.now in
-    let f : ℕ → InsertionChoice = pair_choice model c.args.begun.now.pair.list.vehicle list c.args.begun.now.pair.class c.args.begun.now.pair.pickup c.args.begun.now.pair.delivery c.args.begun.now.s in
+    let f : ℕ → InsertionChoice = pair_choice model c.args.begun.now.pair.list.vehicle list
+    c.args.begun.now.pair.class c.args.begun.now.pair.pickup c.args.begun.now.pair.delivery c.args.begun.now.s in
     let further = c.least_further.ensures in
-    let least = subst (λ x. VisitAddsAtLeast model c.args.begun.now.pair.list.vehicle list c.args.begun.now.pair.delivery x) (sym (to_z-of_z w64 c.args.least c.ranges.least)) c.requires.least.adds in
+    let least = subst (λ x. VisitAddsAtLeast model c.args.begun.now.pair.list.vehicle list c.args.begun.now.pair.delivery x)
+    (sym (to_z-of_z w64 c.args.least c.ranges.least)) c.requires.least.adds in
     let fits : to_z w64 (of_z w64 c.least_further.result) ≡ c.least_further.result = omega (arith, ints, further.low, further.high) in
-    deliveries-passed_over model c.args.begun.now.pair.list.vehicle list c.args.begun.now.pair.class c.args.begun.now.pair.pickup c.args.begun.now.pair.delivery c.args.begun.now.s (c.args.begun.now.s + 1) c.in_ok-near.near c.least_further.result
+    deliveries-passed_over model c.args.begun.now.pair.list.vehicle list c.args.begun.now.pair.class c.args.begun.now.pair.pickup
+    c.args.begun.now.pair.delivery c.args.begun.now.s (c.args.begun.now.s + 1) c.in_ok-near.near c.least_further.result
     (λ t from high. further.least c.args.begun.now.pair.delivery t least (omega (arith, from)) high)
     (ap (may_improve c.in_ok-near.near c.args.begun.now.pair.class) (sym fits) ∙ sym c.may_improve.ensures ∙ c.if-not-may_improve.true)
     ∙ ap (λ best. fold (weigh model list) best (map f (from_to (c.args.begun.now.s + 1) (suc (length list))))) c.in_ok-near.ensures.best
@@ -88,10 +99,13 @@ pub returns : goal.returns
 returns c =
     let model = c.args.begun.now.pair.list.lookups.now.closed.model.now in
     let list = c.args.begun.now.pair.list.nodes.now in
-    let f : ℕ → InsertionChoice = pair_choice model c.args.begun.now.pair.list.vehicle list c.args.begun.now.pair.class c.args.begun.now.pair.pickup c.args.begun.now.pair.delivery c.args.begun.now.s in
+    let f : ℕ → InsertionChoice = pair_choice model c.args.begun.now.pair.list.vehicle list
+    c.args.begun.now.pair.class c.args.begun.now.pair.pickup c.args.begun.now.pair.delivery c.args.begun.now.s in
     IfOk-weaker c.best_further.result
     (λ chosen. chosen ≡ fold (weigh model list) c.in_ok-near.near (map f (from_to (c.args.begun.now.s + 1) (suc (length list)))))
     (λ chosen. chosen ≡ fold (weigh model list) c.args.best (map f (from_to c.args.begun.now.s (suc (length list)))))
     (λ chosen is.
     is ∙ ap (λ best. fold (weigh model list) best (map f (from_to (c.args.begun.now.s + 1) (suc (length list))))) c.in_ok-near.ensures.best
-    ∙ sym (first_left c.args.begun.now.s (suc (length list)) (omega (arith, c.args.begun.now.within)) (λ ks. fold (weigh model list) c.args.best (map f ks)))) c.best_further.ensures
+    ∙ sym
+    (first_left c.args.begun.now.s (suc (length list)) (omega (arith, c.args.begun.now.within)) (λ ks. fold (weigh model list) c.args.best (map f ks))))
+    c.best_further.ensures

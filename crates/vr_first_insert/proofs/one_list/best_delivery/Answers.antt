@@ -15,8 +15,10 @@ pub returns-then-not-may_improve-clause-best : goal.returns-then-not-may_improve
 returns-then-not-may_improve-clause-best c =
     let model = c.args.pair.now.list.lookups.now.closed.model.now in
     let list = c.args.pair.now.list.nodes.now in
-    let fits : to_z w64 (of_z w64 c.least_behind.result) ≡ c.least_behind.result = omega (arith, ints, c.least_behind.ensures.low, c.least_behind.ensures.high) in
-    deliveries-passed_over model c.args.pair.now.list.vehicle list c.args.pair.now.class c.args.pair.now.pickup c.args.pair.now.delivery c.args.s c.args.s c.args.best c.least_behind.result (λ t from high. c.least_behind.ensures.least t high)
+    let fits : to_z w64 (of_z w64 c.least_behind.result) ≡ c.least_behind.result =
+    omega (arith, ints, c.least_behind.ensures.low, c.least_behind.ensures.high) in
+    deliveries-passed_over model c.args.pair.now.list.vehicle list c.args.pair.now.class c.args.pair.now.pickup
+    c.args.pair.now.delivery c.args.s c.args.s c.args.best c.least_behind.result (λ t from high. c.least_behind.ensures.least t high)
     (ap (may_improve c.args.best c.args.pair.now.class) (sym fits) ∙ sym c.may_improve.ensures ∙ c.if-not-may_improve.true)
 
 pub get-least-requires : goal.get-least-requires
@@ -25,7 +27,9 @@ get-least-requires c =
     omega (arith, long)
 
 pub least_behind-requires-clause-least : goal.least_behind-requires-clause-least
-least_behind-requires-clause-least c = all-read c.args.pair.now.list c.args.pair.now.delivery c.args.scratch.now.ahead c.get-least.result.now c.requires.ready.ahead (c.get-least.ensures.value (pos 0))
+least_behind-requires-clause-least c = all-read c.args.pair.now.list c.args.pair.now.delivery
+    c.args.scratch.now.ahead c.get-least.result.now c.requires.ready.ahead (c.get-least.ensures.value (pos 0))
 
 pub best_behind-requires-clause-least : goal.best_behind-requires-clause-least
-best_behind-requires-clause-least c = all-read c.args.pair.now.list c.args.pair.now.delivery c.args.scratch.now.ahead c.get-least.result.now c.requires.ready.ahead (c.get-least.ensures.value (pos 0))
+best_behind-requires-clause-least c = all-read c.args.pair.now.list c.args.pair.now.delivery
+    c.args.scratch.now.ahead c.get-least.result.now c.requires.ready.ahead (c.get-least.ensures.value (pos 0))

@@ -38,7 +38,8 @@ loop-t-preserved c =
     record {
       best = c.in_ok-best.ensures.best
           ∙ ap (λ best. weigh model list best (f (t + 1))) c.loop-t.invariant.best
-          ∙ sym (fold-one (weigh model list) c.args.best f (below (t + 1)) (t + 1)) ∙ sym (ap (λ ks. fold (weigh model list) c.args.best (map f ks)) (below-more (t + 1)));
+          ∙ sym (fold-one (weigh model list) c.args.best f (below (t + 1)) (t + 1))
+          ∙ sym (ap (λ ks. fold (weigh model list) c.args.best (map f ks)) (below-more (t + 1)));
       longer = c.in_ok-best.ensures.longer ∙ c.move_on.ensures list c.args.visit.now.node c.loop-t-test.true c.loop-t.invariant.longer;
     }
 

@@ -16,7 +16,8 @@ loop-s-preserved c =
     let f = deliveries model c.args.pair.now.list.vehicle list c.args.pair.now.class c.args.pair.now.pickup c.args.pair.now.delivery in
     record {
       best = c.in_ok-best.ensures.best ∙ ap (λ best. fold (weigh model list) best (f c.loop-s.s)) c.loop-s.invariant.best
-          ∙ sym (fold-each (weigh model list) c.args.best f (below c.loop-s.s) c.loop-s.s) ∙ sym (ap (λ ks. fold (weigh model list) c.args.best (each ks f)) (below-more c.loop-s.s));
+          ∙ sym (fold-each (weigh model list) c.args.best f (below c.loop-s.s) c.loop-s.s)
+          ∙ sym (ap (λ ks. fold (weigh model list) c.args.best (each ks f)) (below-more c.loop-s.s));
       ahead = subst (AreLeastAhead model c.args.pair.now.list.vehicle list c.args.pair.now.delivery) (sym c.in_ok-best.ensures.ahead) c.loop-s.invariant.ahead;
     }
 

@@ -26,4 +26,5 @@ returns-then-branch c =
     let better = improves key_of c.args.best (visit_choice model c.args.visit.now.list.vehicle list c.args.visit.now.class c.args.visit.now.node place) in
     let opens = is_route_open model c.args.visit.now.list.vehicle (placed list (One c.args.visit.now.node place)) in
     let taken : (better && opens) ≡ true = sym c.in_ok-is_visit_taken.ensures ∙ c.if-branch.true in
-    ap Some c.visit_at.ensures ∙ first-taken model c.args.visit.now.list.vehicle list c.args.visit.now.class c.args.visit.now.node place c.least_place-t.ensures c.args.best (and_left better opens taken) (and_right better opens taken)
+    ap Some c.visit_at.ensures ∙ first-taken model c.args.visit.now.list.vehicle list c.args.visit.now.class
+    c.args.visit.now.node place c.least_place-t.ensures c.args.best (and_left better opens taken) (and_right better opens taken)

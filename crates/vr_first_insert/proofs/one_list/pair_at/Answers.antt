@@ -12,6 +12,12 @@ overflow_cast-result-2 c = omega (arith, few-held c.args.pair.now.list c.args.pa
 
 pub returns : goal.returns
 returns c =
-    let fits : to_z w64 (of_z w64 c.pair_increase.result) ≡ c.pair_increase.result = omega (arith, ints, c.pair_increase.ensures.low, c.pair_increase.ensures.high) in
+    let fits : to_z w64 (of_z w64 c.pair_increase.result) ≡ c.pair_increase.result =
+    omega (arith, ints, c.pair_increase.ensures.low, c.pair_increase.ensures.high) in
     let increase = fits ∙ c.pair_increase.ensures.value in
-    λ i. record { placing = Two c.args.pair.now.pickup c.args.pair.now.delivery c.args.s c.args.t; class = c.args.pair.now.class; vehicle = c.args.pair.now.list.vehicle; increase = increase i }
+    λ i. record {
+      placing = Two c.args.pair.now.pickup c.args.pair.now.delivery c.args.s c.args.t;
+      class = c.args.pair.now.class;
+      vehicle = c.args.pair.now.list.vehicle;
+      increase = increase i;
+    }

@@ -9,6 +9,7 @@ overflow_cast-result c = omega (arith, few-held c.args.visit.now.list c.args.vis
 
 pub returns : goal.returns
 returns c =
-    let fits : to_z w64 (of_z w64 c.visit_increase.result) ≡ c.visit_increase.result = omega (arith, ints, c.visit_increase.ensures.low, c.visit_increase.ensures.high) in
+    let fits : to_z w64 (of_z w64 c.visit_increase.result) ≡ c.visit_increase.result =
+    omega (arith, ints, c.visit_increase.ensures.low, c.visit_increase.ensures.high) in
     let increase = fits ∙ c.visit_increase.ensures.value in
     λ i. record { placing = One c.args.visit.now.node c.args.t; class = c.args.visit.now.class; vehicle = c.args.visit.now.list.vehicle; increase = increase i }

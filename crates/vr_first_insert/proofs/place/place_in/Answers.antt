@@ -13,7 +13,8 @@ pub write_placed-requires-clause-within : goal.write_placed-requires-clause-with
 write_placed-requires-clause-within c =
     let lists = c.args.lists.now in
     let v : ℕ = c.args.choice.vehicle in
-    let before : c.as_slice-before.result.now ≡ route lists v = c.as_slice-before.ensures ∙ get_or_default lists v c.index-lists-v.result [] c.requires.may.vehicle in
+    let before : c.as_slice-before.result.now ≡ route lists v = c.as_slice-before.ensures
+    ∙ get_or_default lists v c.index-lists-v.result [] c.requires.may.vehicle in
     subst (λ list. AreWithin list c.args.choice.placing) (sym before) c.requires.may.within
 
 pub write_placed-requires-clause-few : goal.write_placed-requires-clause-few
@@ -21,9 +22,15 @@ write_placed-requires-clause-few c =
     let model = c.args.lookups.now.closed.model.now in
     let lists = c.args.lists.now in
     let v : ℕ = c.args.choice.vehicle in
-    let before : c.as_slice-before.result.now ≡ route lists v = c.as_slice-before.ensures ∙ get_or_default lists v c.index-lists-v.result [] c.requires.may.vehicle in
+    let before : c.as_slice-before.result.now ≡ route lists v = c.as_slice-before.ensures
+    ∙ get_or_default lists v c.index-lists-v.result [] c.requires.may.vehicle in
     let long = ap length before in
-    omega (arith, long, visits-few model (route lists v) (built-visits model lists v c.requires.built) (built-distinct model lists v c.requires.built), c.args.lookups.now.closed.well_formed.number_of_nodes.1)
+    omega (
+      arith,
+      long,
+      visits-few model (route lists v) (built-visits model lists v c.requires.built) (built-distinct model lists v c.requires.built),
+      c.args.lookups.now.closed.well_formed.number_of_nodes.1,
+    )
 
 pub invariant_of-list : goal.invariant_of-list
 invariant_of-list c =
@@ -44,5 +51,7 @@ pub returns-clause-lists : goal.returns-clause-lists
 returns-clause-lists c =
     let lists = c.args.lists.now in
     let v : ℕ = c.args.choice.vehicle in
-    let before : c.as_slice-before.result.now ≡ route lists v = c.as_slice-before.ensures ∙ get_or_default lists v c.index-lists-v.result [] c.requires.may.vehicle in
-    c.in_ok-change_list.ensures.lists ∙ ap (with_route lists v) (c.as_slice-nodes.ensures ∙ c.in_ok-write_placed.ensures ∙ ap (λ list. placed list c.args.choice.placing) before)
+    let before : c.as_slice-before.result.now ≡ route lists v = c.as_slice-before.ensures
+    ∙ get_or_default lists v c.index-lists-v.result [] c.requires.may.vehicle in
+    c.in_ok-change_list.ensures.lists
+    ∙ ap (with_route lists v) (c.as_slice-nodes.ensures ∙ c.in_ok-write_placed.ensures ∙ ap (λ list. placed list c.args.choice.placing) before)

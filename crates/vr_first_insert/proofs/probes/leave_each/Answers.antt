@@ -10,8 +10,10 @@ loop-d-preserved c =
     let m = c.loop-d.invariant in
     let here = c.loop-d.probes.here.items in
     let new = c.leave_rows.new.here in
-    let P = λ (d : ℕ) (levels : List (List Run)). IsReachedAt c.args.old.now.lookups.now.closed.model.now d c.args.old.now.vehicle c.args.new.now (c.args.front + 1) levels in
+    let P = λ (d : ℕ) (levels : List (List Run)). IsReachedAt c.args.old.now.lookups.now.closed.model.now
+    d c.args.old.now.vehicle c.args.new.now (c.args.front + 1) levels in
     record {
       long = length-set here c.loop-d.d new ∙ m.long;
-      done = λ d other low lt. moved_more P here c.loop-d.d new (omega (arith, m.long, c.requires.enough, c.loop-d-test.true)) m.done c.in_ok-leave_rows.ensures d other low lt;
+      done = λ d other low lt. moved_more P here c.loop-d.d new
+          (omega (arith, m.long, c.requires.enough, c.loop-d-test.true)) m.done c.in_ok-leave_rows.ensures d other low lt;
     }

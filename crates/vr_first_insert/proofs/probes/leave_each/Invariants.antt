@@ -8,5 +8,6 @@ use Rattle.vr_first_insert.proofs.probes.leave_each.Given as goal
 abbrev pub invariant-loop-d : goal.invariant-loop-d
 invariant-loop-d l = record {
   long : length l.probes.here.items ≡ length l.initial.probes.here.items;
-  done : (d : ℕ) (other : List (List Run)) → d < l.d → d < length l.probes.here.items → IsReachedAt l.old.lookups.now.closed.model.now d l.old.vehicle l.new (l.front + 1) (slice_index_or l.probes.here.items d other);
+  done : (d : ℕ) (other : List (List Run)) → d < l.d → d < length l.probes.here.items
+      → IsReachedAt l.old.lookups.now.closed.model.now d l.old.vehicle l.new (l.front + 1) (slice_index_or l.probes.here.items d other);
 }

@@ -10,7 +10,8 @@ returns-then-is_passed_over-clause-best c =
     let model = c.args.on.now.items.lookups.now.closed.model.now in
     let item = waiting_at c.args.waiting.now c.args.k in
     let is = c.requires.waits c.args.k unread_waiting c.requires.place in
-    passed-beside model c.args.on.now.lists.now (candidate_at c.args.on.now.items.candidates.now item.number) c.args.marks.now item.least c.args.best.now is.least
+    passed-beside model c.args.on.now.lists.now (candidate_at c.args.on.now.items.candidates.now item.number)
+    c.args.marks.now item.least c.args.best.now is.least
     (sym c.is_passed_over.ensures ∙ c.if-is_passed_over.true)
 
 pub best_in_lists-requires : goal.best_in_lists-requires

@@ -20,8 +20,10 @@ use Rattle.vr_first_insert.proofs.search.insert_waiting.Goals as goal
 pub returns-in-None-clause-rebuilt : goal.returns-in-None-clause-rebuilt
 returns-in-None-clause-rebuilt c =
     let model = c.args.items.now.lookups.now.closed.model.now in
-    sym (rebuilt-stops model (length c.args.items.now.candidates.now - c.loop-step._step) c.loop-step.lists (sym c.in_ok-next.ensures.next ∙ ap (option_map insertion_of) c.in-None.is))
-    ∙ c.loop-step.invariant.rebuilds ∙ ap (λ n. rebuilt model n c.args.lists.now) (candidates-count model c.args.items.now.candidates.now c.requires.may.items_are)
+    sym (rebuilt-stops model (length c.args.items.now.candidates.now - c.loop-step._step)
+    c.loop-step.lists (sym c.in_ok-next.ensures.next ∙ ap (option_map insertion_of) c.in-None.is))
+    ∙ c.loop-step.invariant.rebuilds
+    ∙ ap (λ n. rebuilt model n c.args.lists.now) (candidates-count model c.args.items.now.candidates.now c.requires.may.items_are)
 
 pub next_insertion-requires-clause-may : goal.next_insertion-requires-clause-may
 next_insertion-requires-clause-may c =
@@ -55,8 +57,10 @@ lower-requires c =
       kept = c.in_ok-place_in-in-Some.ensures.kept;
       built = subst (AreBuilt model) (sym is) (made-built model lists choice c.loop-step.invariant.built may);
       marks = subst (λ lists. AreMarks model.nodes lists c.mark_item.new.marks) (sym is)
-          (made-marks model lists choice c.loop-step.invariant.built may c.loop-step.marks c.mark_item.new.marks c.loop-step.invariant.marked c.mark_item.ensures.count
-          (λ node d low. c.mark_item.ensures.each node d low ∙ ap (λ item. holds (item_nodes item) node || slice_index_or c.loop-step.marks node d) c.item.ensures));
+          (made-marks model lists choice c.loop-step.invariant.built may c.loop-step.marks
+          c.mark_item.new.marks c.loop-step.invariant.marked c.mark_item.ensures.count
+          (λ node d low. c.mark_item.ensures.each node d low
+          ∙ ap (λ item. holds (item_nodes item) node || slice_index_or c.loop-step.marks node d) c.item.ensures));
       there = omega (arith, there, many);
       waits = subst (λ lists. All (IsWaitingElsewhere model lists v c.args.items.now.candidates.now) c.next_insertion.new.waiting) (sym is)
           (all-elsewhere model lists v list c.args.items.now.candidates.now c.next_insertion.new.waiting c.in_ok-next.ensures.waiting.each);
@@ -77,18 +81,23 @@ loop-step-preserved c =
     let is : c.place_in.new.lists ≡ with_route lists v list = c.in_ok-place_in-in-Some.ensures.lists in
     record {
       rebuilds = ap (rebuilt model (n - (c.loop-step._step + 1))) (is ∙ sym (inserted-choice lists choice))
-          ∙ sym (rebuilt-next model (n - c.loop-step._step) (n - (c.loop-step._step + 1)) lists (insertion_of choice) next (omega arith)) ∙ c.loop-step.invariant.rebuilds;
+          ∙ sym (rebuilt-next model (n - c.loop-step._step) (n - (c.loop-step._step + 1)) lists (insertion_of choice) next (omega arith))
+          ∙ c.loop-step.invariant.rebuilds;
       built = subst (AreBuilt model) (sym is) (made-built model lists choice c.loop-step.invariant.built may);
       marked = subst (λ lists. AreMarks model.nodes lists c.mark_item.new.marks) (sym is)
-          (made-marks model lists choice c.loop-step.invariant.built may c.loop-step.marks c.mark_item.new.marks c.loop-step.invariant.marked c.mark_item.ensures.count
-          (λ node d low. c.mark_item.ensures.each node d low ∙ ap (λ item. holds (item_nodes item) node || slice_index_or c.loop-step.marks node d) c.item.ensures));
+          (made-marks model lists choice c.loop-step.invariant.built may c.loop-step.marks
+          c.mark_item.new.marks c.loop-step.invariant.marked c.mark_item.ensures.count
+          (λ node d low. c.mark_item.ensures.each node d low
+          ∙ ap (λ item. holds (item_nodes item) node || slice_index_or c.loop-step.marks node d) c.item.ensures));
       known = subst (λ lists. AreKnownRows model lists candidates c.forget.new.known_items) (sym is)
-          (rows-forgotten model lists candidates c.next_insertion.new.known_items c.forget.new.known_items v list may.vehicle c.in_ok-next.ensures.known c.forget.ensures);
+          (rows-forgotten model lists candidates c.next_insertion.new.known_items
+          c.forget.new.known_items v list may.vehicle c.in_ok-next.ensures.known c.forget.ensures);
       waiting = record {
         each = c.lower.ensures.waiting;
         all = subst (λ those. unplaced_of c.place_in.new.lists those ≡ unplaced model c.place_in.new.lists) (sym c.lower.ensures.same)
             (subst (λ lists. unplaced_of lists (waiting_candidates candidates c.next_insertion.new.waiting) ≡ unplaced model lists) (sym is)
-            (waiting-later model lists v list nodes (waiting_candidates candidates c.next_insertion.new.waiting) may.vehicle (made-added model lists choice c.loop-step.invariant.built may).nodes_are c.in_ok-next.ensures.waiting.all));
+            (waiting-later model lists v list nodes (waiting_candidates candidates c.next_insertion.new.waiting) may.vehicle
+            (made-added model lists choice c.loop-step.invariant.built may).nodes_are c.in_ok-next.ensures.waiting.all));
       };
       kept = c.in_ok-place_in-in-Some.ensures.kept;
     }

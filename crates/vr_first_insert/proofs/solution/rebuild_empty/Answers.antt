@@ -6,7 +6,8 @@ use Rattle.vr_rules.proofs.PlacingLemmas.{AreBuilt-empty}
 use Rattle.vr_first_insert.proofs.solution.rebuild_empty.Goals as goal
 
 pub rebuild-requires-clause-built : goal.rebuild-requires-clause-built
-rebuild-requires-clause-built c = subst (AreBuilt c.args.lookups.now.closed.model.now) (sym c.in_ok-empty.ensures.lists) (AreBuilt-empty c.args.lookups.now.closed.model.now)
+rebuild-requires-clause-built c =
+    subst (AreBuilt c.args.lookups.now.closed.model.now) (sym c.in_ok-empty.ensures.lists) (AreBuilt-empty c.args.lookups.now.closed.model.now)
 
 pub returns-clause-lists : goal.returns-clause-lists
 returns-clause-lists c =

@@ -20,11 +20,16 @@ use Rattle.vr_first_insert.proofs.trying.may_serve.Goals as goal
 
 pub keeps_its_pairs-requires-clause-visits : goal.keeps_its_pairs-requires-clause-visits
 keeps_its_pairs-requires-clause-visits c =
-    ap (list_all (is_visit c.args.pair.now.list.lookups.now.closed.model.now)) c.requires.may_test.longer ∙ placed-visits c.args.pair.now.list.lookups.now.closed.model.now c.args.pair.now.list.nodes.now (Two c.args.pair.now.pickup c.args.pair.now.delivery c.requires.s c.args.t) (c.requires.may_test.order, c.requires.may_test.within) c.args.pair.now.may_hold
+    ap (list_all (is_visit c.args.pair.now.list.lookups.now.closed.model.now)) c.requires.may_test.longer
+    ∙ placed-visits c.args.pair.now.list.lookups.now.closed.model.now c.args.pair.now.list.nodes.now
+    (Two c.args.pair.now.pickup c.args.pair.now.delivery c.requires.s c.args.t)
+    (c.requires.may_test.order, c.requires.may_test.within) c.args.pair.now.may_hold
 
 pub keeps_its_pairs-requires-clause-distinct : goal.keeps_its_pairs-requires-clause-distinct
 keeps_its_pairs-requires-clause-distinct c =
-    ap is_distinct c.requires.may_test.longer ∙ placed-distinct c.args.pair.now.list.lookups.now.closed.model.now c.args.pair.now.list.nodes.now (Two c.args.pair.now.pickup c.args.pair.now.delivery c.requires.s c.args.t) (c.requires.may_test.order, c.requires.may_test.within) c.args.pair.now.may_hold
+    ap is_distinct c.requires.may_test.longer ∙ placed-distinct c.args.pair.now.list.lookups.now.closed.model.now
+    c.args.pair.now.list.nodes.now (Two c.args.pair.now.pickup c.args.pair.now.delivery c.requires.s c.args.t)
+    (c.requires.may_test.order, c.requires.may_test.within) c.args.pair.now.may_hold
 
 pub goes_from-requires : goal.goes_from-requires
 goes_from-requires c =
@@ -33,27 +38,39 @@ goes_from-requires c =
     let list = c.args.pair.now.list.nodes.now in
     let pair : Pair = record { pickup = c.args.pair.now.pickup; delivery = c.args.pair.now.delivery } in
     let written = sym (c.as_slice-longer.ensures ∙ c.requires.may_test.longer) in
-    let long = ap length (c.as_slice-longer.ensures ∙ c.requires.may_test.longer) ∙ pair_long pair list c.requires.s c.args.t c.requires.may_test.order c.requires.may_test.within in
+    let long = ap length (c.as_slice-longer.ensures ∙ c.requires.may_test.longer)
+    ∙ pair_long pair list c.requires.s c.args.t c.requires.may_test.order c.requires.may_test.within in
     record {
       kept = c.requires.may_test.ready.kept;
-      used = subst (IsUsed model) written (used-placed model list (Two pair.pickup pair.delivery c.requires.s c.args.t) (c.requires.may_test.order, c.requires.may_test.within) c.args.pair.now.may_hold);
+      used = subst (IsUsed model) written
+          (used-placed model list (Two pair.pickup pair.delivery c.requires.s c.args.t)
+          (c.requires.may_test.order, c.requires.may_test.within) c.args.pair.now.may_hold);
       here = subst (λ new. AreReachedAt model v new (c.args.t + 1) c.args.probes.now) written
-          (reached_in_each model v (insert list c.requires.s pair.pickup) (placed list (Two pair.pickup pair.delivery c.requires.s c.args.t)) (c.args.t + 1) c.args.probes.now
+          (reached_in_each model v (insert list c.requires.s pair.pickup)
+          (placed list (Two pair.pickup pair.delivery c.requires.s c.args.t)) (c.args.t + 1) c.args.probes.now
           (pair_front pair list c.requires.s c.args.t c.args.t c.requires.may_test.order (omega arith) c.requires.may_test.within) c.requires.may_test.here);
-      back = subst (λ new. SharesBack list new (length list - c.args.t)) written (pair_back pair list c.requires.s c.args.t c.requires.may_test.order c.requires.may_test.within);
+      back = subst (λ new. SharesBack list new (length list - c.args.t)) written
+          (pair_back pair list c.requires.s c.args.t c.requires.may_test.order c.requires.may_test.within);
       apart = omega (arith, long, c.requires.may_test.within);
     }
 
 pub returns-then-not-branch-clause-open : goal.returns-then-not-branch-clause-open
 returns-then-not-branch-clause-open c =
     let list = placed c.args.pair.now.list.nodes.now (Two c.args.pair.now.pickup c.args.pair.now.delivery c.requires.s c.args.t) in
-    sym (closed-by_lines c.args.pair.now.list.lookups.now.closed.model.now c.args.pair.now.list.vehicle list (used-placed c.args.pair.now.list.lookups.now.closed.model.now c.args.pair.now.list.nodes.now (Two c.args.pair.now.pickup c.args.pair.now.delivery c.requires.s c.args.t) (c.requires.may_test.order, c.requires.may_test.within) c.args.pair.now.may_hold).some
-    (ap (is_feasible_in_each c.args.pair.now.list.lookups.now.closed.model.now c.args.pair.now.list.vehicle) (sym (c.as_slice-longer.ensures ∙ c.requires.may_test.longer)) ∙ sym c.in_ok-goes_from.ensures ∙ c.if-not-branch.true))
+    sym (closed-by_lines c.args.pair.now.list.lookups.now.closed.model.now c.args.pair.now.list.vehicle
+    list (used-placed c.args.pair.now.list.lookups.now.closed.model.now c.args.pair.now.list.nodes.now
+    (Two c.args.pair.now.pickup c.args.pair.now.delivery c.requires.s c.args.t)
+    (c.requires.may_test.order, c.requires.may_test.within) c.args.pair.now.may_hold).some
+    (ap (is_feasible_in_each c.args.pair.now.list.lookups.now.closed.model.now c.args.pair.now.list.vehicle)
+    (sym (c.as_slice-longer.ensures ∙ c.requires.may_test.longer)) ∙ sym c.in_ok-goes_from.ensures ∙ c.if-not-branch.true))
     ∙ ap (is_route_open c.args.pair.now.list.lookups.now.closed.model.now c.args.pair.now.list.vehicle) (sym c.requires.may_test.longer)
 
 pub returns-clause-open : goal.returns-clause-open
 returns-clause-open c =
     c.keeps_its_pairs.ensures.keeps ∙ ap (keeps_pairs c.args.pair.now.list.lookups.now.closed.model.now c.args.pair.now.list.vehicle) c.requires.may_test.longer
-    ∙ sym (open-by_pairs c.args.pair.now.list.lookups.now.closed.model.now c.args.pair.now.list.vehicle c.args.pair.now.list.nodes.now (Two c.args.pair.now.pickup c.args.pair.now.delivery c.requires.s c.args.t) (c.requires.may_test.order, c.requires.may_test.within) c.requires.may_test.ready.stands c.args.pair.now.allowed
-    (ap (is_feasible_in_each c.args.pair.now.list.lookups.now.closed.model.now c.args.pair.now.list.vehicle) (sym (c.as_slice-longer.ensures ∙ c.requires.may_test.longer)) ∙ sym c.in_ok-goes_from.ensures ∙ c.if-not-branch.false))
+    ∙ sym (open-by_pairs c.args.pair.now.list.lookups.now.closed.model.now c.args.pair.now.list.vehicle
+    c.args.pair.now.list.nodes.now (Two c.args.pair.now.pickup c.args.pair.now.delivery c.requires.s c.args.t)
+    (c.requires.may_test.order, c.requires.may_test.within) c.requires.may_test.ready.stands c.args.pair.now.allowed
+    (ap (is_feasible_in_each c.args.pair.now.list.lookups.now.closed.model.now c.args.pair.now.list.vehicle)
+    (sym (c.as_slice-longer.ensures ∙ c.requires.may_test.longer)) ∙ sym c.in_ok-goes_from.ensures ∙ c.if-not-branch.false))
     ∙ ap (is_route_open c.args.pair.now.list.lookups.now.closed.model.now c.args.pair.now.list.vehicle) (sym c.requires.may_test.longer)

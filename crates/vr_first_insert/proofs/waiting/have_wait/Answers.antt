@@ -10,4 +10,5 @@ returns-then-is_marked c =
 pub returns : goal.returns
 returns c =
     let waiting = c.args.waiting.now.items in
-    c.in_ok-push.ensures.items ∙ ap (λ b. cond (not b) (waiting ++ record { number = c.args.i; least = None } ∷ []) waiting) (sym c.if-is_marked.false ∙ c.is_marked.ensures)
+    c.in_ok-push.ensures.items
+    ∙ ap (λ b. cond (not b) (waiting ++ record { number = c.args.i; least = None } ∷ []) waiting) (sym c.if-is_marked.false ∙ c.is_marked.ensures)

@@ -17,7 +17,10 @@ lowered-least-requires c =
     record {
       may_ask = record {
         asked = record {
-          ready = λ v low. record { stands = open-route model lists v c.requires.built.are_open low; kept = kept_of model lists c.args.list_rows.now c.requires.kept v low };
+          ready = λ v low. record {
+            stands = open-route model lists v c.requires.built.are_open low;
+            kept = kept_of model lists c.args.list_rows.now c.requires.kept v low;
+          };
           vehicles = built-count model lists c.requires.built;
         };
         items_are = c.requires.items_are;
@@ -44,15 +47,20 @@ loop-k-preserved c =
     record {
       many = many ∙ before.many;
       done = λ j earlier. elim (cases_lt j k) [
-        | inl less ↦ subst (IsWaiting model lists candidates) (sym (get_or-set_other waiting k j new unread_waiting (λ e. omega (arith, less, e)))) (before.done j less)
+        | inl less ↦
+            subst (IsWaiting model lists candidates) (sym (get_or-set_other waiting k j new unread_waiting (λ e. omega (arith, less, e)))) (before.done j less)
         | inr at ↦ (let e : k ≡ j = omega (arith, earlier, at) in subst (λ j. IsWaiting model lists candidates (waiting_at (slice_set waiting k new) j)) e
-            (subst (IsWaiting model lists candidates) (sym (get_or-set_same waiting k new unread_waiting low)) (record { there = (before.left k (omega arith) low).there; least = c.lowered-least.ensures })))
+            (subst (IsWaiting model lists candidates) (sym (get_or-set_same waiting k new unread_waiting low))
+            (record { there = (before.left k (omega arith) low).there; least = c.lowered-least.ensures })))
       ];
-      left = λ j from there. subst (IsWaitingElsewhere model lists c.args.v candidates) (sym (get_or-set_other waiting k j new unread_waiting (λ e. omega (arith, from, e)))) (before.left j (omega (arith, from)) (omega (arith, there, many)));
+      left = λ j from there. subst (IsWaitingElsewhere model lists c.args.v candidates)
+          (sym (get_or-set_other waiting k j new unread_waiting (λ e. omega (arith, from, e))))
+          (before.left j (omega (arith, from)) (omega (arith, there, many)));
       same = waiting-same candidates waiting k new refl ∙ before.same;
     }
 
 pub returns-clause-waiting : goal.returns-clause-waiting
 returns-clause-waiting c = λ k d low.
-    subst (IsWaiting c.args.items.now.lookups.now.closed.model.now c.args.lists.now c.args.items.now.candidates.now) (get_or_default c.loop-k.waiting k unread_waiting d low)
+    subst (IsWaiting c.args.items.now.lookups.now.closed.model.now c.args.lists.now c.args.items.now.candidates.now)
+    (get_or_default c.loop-k.waiting k unread_waiting d low)
     (c.loop-k.invariant.done k (let many = c.loop-k.invariant.many in omega (arith, low, many, c.loop-k-test.false)))

@@ -7,6 +7,7 @@ abbrev pub invariant-loop-k : goal.invariant-loop-k
 invariant-loop-k l = record {
   many : length l.waiting ≡ length l.initial.waiting;
   done : (k : ℕ) → k < l.k → IsWaiting l.items.lookups.now.closed.model.now l.lists l.items.candidates.now (waiting_at l.waiting k);
-  left : (k : ℕ) → l.k ≤ k → k < length l.waiting → IsWaitingElsewhere l.items.lookups.now.closed.model.now l.lists l.v l.items.candidates.now (waiting_at l.waiting k);
+  left : (k : ℕ) → l.k ≤ k → k < length l.waiting
+      → IsWaitingElsewhere l.items.lookups.now.closed.model.now l.lists l.v l.items.candidates.now (waiting_at l.waiting k);
   same : waiting_candidates l.items.candidates.now l.waiting ≡ waiting_candidates l.items.candidates.now l.initial.waiting;
 }

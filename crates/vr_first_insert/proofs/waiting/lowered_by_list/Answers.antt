@@ -19,7 +19,8 @@ adds_at_least-here-requires-clause-may_hold c = λ v low.
     let model = c.args.on.now.items.lookups.now.closed.model.now in
     let candidate = candidate_at c.args.on.now.items.candidates.now c.args.number in
     let valid = c.requires.may_ask.items_are.each c.args.number unread c.requires.waits.there in
-    hold-unmarked model c.args.on.now.lists.now c.args.marks.now candidate c.requires.may_ask.built c.requires.may_ask.marks valid (sym c.is_marked.ensures ∙ c.if-is_marked.false) v
+    hold-unmarked model c.args.on.now.lists.now c.args.marks.now candidate c.requires.may_ask.built
+    c.requires.may_ask.marks valid (sym c.is_marked.ensures ∙ c.if-is_marked.false) v
 
 pub returns : goal.returns
 returns c =
@@ -29,5 +30,7 @@ returns c =
     let fits : to_z w64 (of_z w64 c.adds_at_least-here.result) ≡ c.adds_at_least-here.result = search rules in
     let fits_too : to_z w64 (of_z w64 c.args.least) ≡ c.args.least = search rules in
     let same : to_z w64 (of_z w64 c.min.result) ≡ c.min.result = search rules in
-    lowered-anywhere model c.args.on.now.lists.now c.args.v candidate c.args.least c.adds_at_least-here.result (to_z w64 (of_z w64 c.min.result)) c.requires.waits.least c.adds_at_least-here.ensures
-    (omega (arith, ints, fits, fits_too, same, least.value, least.self_bound, least.other_bound)) (omega (arith, ints, fits, fits_too, same, least.value, least.self_bound, least.other_bound))
+    lowered-anywhere model c.args.on.now.lists.now c.args.v candidate c.args.least c.adds_at_least-here.result
+    (to_z w64 (of_z w64 c.min.result)) c.requires.waits.least c.adds_at_least-here.ensures
+    (omega (arith, ints, fits, fits_too, same, least.value, least.self_bound, least.other_bound))
+    (omega (arith, ints, fits, fits_too, same, least.value, least.self_bound, least.other_bound))

@@ -8,7 +8,8 @@ pub loop-i-preserved : goal.loop-i-preserved
 loop-i-preserved c =
     let model = c.args.closed.model.now in
     let routes = c.args.routes.now in
-    c.in_ok-push.ensures.items ∙ (λ t. c.loop-i.invariant t ++ c.ends_at.ensures t ∷ []) ∙ sym (map_more (ends_of model) routes c.loop-i.i [] c.loop-i-test.true)
+    c.in_ok-push.ensures.items ∙ (λ t. c.loop-i.invariant t ++ c.ends_at.ensures t ∷ [])
+    ∙ sym (map_more (ends_of model) routes c.loop-i.i [] c.loop-i-test.true)
 
 pub returns : goal.returns
 returns c =

@@ -17,8 +17,10 @@ saved-requires-clause-back c = All-get_or (AreRouteEnds c.args.closed.model.now)
 pub returns : goal.returns
 returns c = λ routes are.
     let model = c.args.closed.model.now in
-    let front : slice_index_or c.args.ends.now c.args.i no_ends ≡ ends_of model (route routes c.args.i) = ends_read model routes c.args.ends.now c.args.i are c.requires.front in
-    let back : slice_index_or c.args.ends.now c.args.j no_ends ≡ ends_of model (route routes c.args.j) = ends_read model routes c.args.ends.now c.args.j are c.requires.back in
+    let front : slice_index_or c.args.ends.now c.args.i no_ends ≡ ends_of model (route routes c.args.i) = ends_read model
+    routes c.args.ends.now c.args.i are c.requires.front in
+    let back : slice_index_or c.args.ends.now c.args.j no_ends ≡ ends_of model (route routes c.args.j) = ends_read model
+    routes c.args.ends.now c.args.j are c.requires.back in
     let fits : to_z w64 (of_z w64 c.saved.result) ≡ c.saved.result = omega (arith, ints, c.saved.ensures.low, c.saved.ensures.high) in
     λ t. record {
       front = c.args.i;

@@ -11,11 +11,13 @@ use Rattle.vr_first_savings.proofs.joins.consider.Goals as goal
 
 pub is_route_open-requires-clause-visits : goal.is_route_open-requires-clause-visits
 is_route_open-requires-clause-visits c =
-    ap (list_all (is_visit c.args.lookups.now.closed.model.now)) (c.deref.ensures.value ∙ c.in_ok-longer.ensures) ∙ joined-visits c.args.lookups.now.closed.model.now c.args.routes.now c.args.next.front c.args.next.back c.requires.apart
+    ap (list_all (is_visit c.args.lookups.now.closed.model.now)) (c.deref.ensures.value ∙ c.in_ok-longer.ensures)
+    ∙ joined-visits c.args.lookups.now.closed.model.now c.args.routes.now c.args.next.front c.args.next.back c.requires.apart
 
 pub is_route_open-requires-clause-distinct : goal.is_route_open-requires-clause-distinct
 is_route_open-requires-clause-distinct c =
-    ap is_distinct (c.deref.ensures.value ∙ c.in_ok-longer.ensures) ∙ joined-distinct c.args.lookups.now.closed.model.now c.args.routes.now c.args.next.front c.args.next.back c.requires.apart c.if-next.false
+    ap is_distinct (c.deref.ensures.value ∙ c.in_ok-longer.ensures)
+    ∙ joined-distinct c.args.lookups.now.closed.model.now c.args.routes.now c.args.next.front c.args.next.back c.requires.apart c.if-next.false
 
 pub returns-then-branch : goal.returns-then-branch
 returns-then-branch c =

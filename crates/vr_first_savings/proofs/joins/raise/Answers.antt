@@ -29,13 +29,16 @@ loop-i-preserved c =
     let number = m.number in
     let many = c.requires.number in
     let fits : to_z w64 (of_z w64 c.saved.result) ≡ c.saved.result = omega (arith, ints, c.saved.ensures.low, c.saved.ensures.high) in
-    let value : c.saved.result ≡ saving model (both (route routes i) (route routes 0)) = c.saved.ensures.value ∙ (λ t. ((front t).to_end +ℤ (joined t).from_start) -ℤ arc_cost model 0 (front t).last (joined t).first) in
-    raised-more model routes c.args.bounds.now c.loop-i.bounds c.raise_to.new.bounds i c.ends_at-front.result.first (to_z w64 (of_z w64 c.saved.result)) m (omega (arith, first, under, number, many)) c.raise_to.ensures first (omega (arith, ints, fits, value))
+    let value : c.saved.result ≡ saving model (both (route routes i) (route routes 0)) = c.saved.ensures.value
+    ∙ (λ t. ((front t).to_end +ℤ (joined t).from_start) -ℤ arc_cost model 0 (front t).last (joined t).first) in
+    raised-more model routes c.args.bounds.now c.loop-i.bounds c.raise_to.new.bounds i c.ends_at-front.result.first
+    (to_z w64 (of_z w64 c.saved.result)) m (omega (arith, first, under, number, many)) c.raise_to.ensures first (omega (arith, ints, fits, value))
 
 pub saved-requires-clause-front : goal.saved-requires-clause-front
 saved-requires-clause-front c =
     let model = c.args.closed.model.now in
-    subst (AreRouteEnds model) (sym c.ends_at-front.ensures) (are_ends model c.args.routes.now c.loop-i.i c.args.closed.well_formed c.requires.apart c.loop-i-test.true)
+    subst (AreRouteEnds model) (sym c.ends_at-front.ensures)
+    (are_ends model c.args.routes.now c.loop-i.i c.args.closed.well_formed c.requires.apart c.loop-i-test.true)
 
 pub saved-requires-clause-back : goal.saved-requires-clause-back
 saved-requires-clause-back c =
@@ -64,4 +67,5 @@ returns c =
     let under = first-below model routes 0 c.requires.apart c.requires.some in
     let number = c.loop-i.invariant.number in
     let many = c.requires.number in
-    raised-all model routes c.args.bounds.now c.loop-i.bounds c.raise_to-2.new.bounds c.loop-i.i c.ends_at-joined.result.first (pos (2 ^ 41)) c.loop-i.invariant (omega (arith, first, under, number, many)) c.raise_to-2.ensures (omega arith) first (omega (arith, ints))
+    raised-all model routes c.args.bounds.now c.loop-i.bounds c.raise_to-2.new.bounds c.loop-i.i c.ends_at-joined.result.first (pos (2 ^ 41))
+    c.loop-i.invariant (omega (arith, first, under, number, many)) c.raise_to-2.ensures (omega arith) first (omega (arith, ints))

@@ -10,7 +10,9 @@ use Rattle.vr_first_savings.proofs.joins.weigh_row.Goals as goal
 pub returns-then-not-may_improve-clause-best : goal.returns-then-not-may_improve-clause-best
 returns-then-not-may_improve-clause-best c =
     row-passed c.args.lookups.now.closed.model.now c.args.step.routes.now c.args.i c.args.best c.args.bound c.requires.bound
-    (subst (λ b. may_improve c.args.best b ≡ false) (let same : to_z w64 (of_z w64 c.args.bound) ≡ c.args.bound = omega (arith, ints, c.ranges.bound) in same) (sym c.may_improve.ensures ∙ c.if-not-may_improve.true))
+    (subst (λ b. may_improve c.args.best b ≡ false)
+    (let same : to_z w64 (of_z w64 c.args.bound) ≡ c.args.bound = omega (arith, ints, c.ranges.bound) in same)
+    (sym c.may_improve.ensures ∙ c.if-not-may_improve.true))
 
 pub returns-in_default-clause-best : goal.returns-in_default-clause-best
 returns-in_default-clause-best c =
@@ -23,7 +25,8 @@ pub returns-in_default-clause-bound : goal.returns-in_default-clause-bound
 returns-in_default-clause-bound c =
     let model = c.args.lookups.now.closed.model.now in
     let routes = c.args.step.routes.now in
-    let none = subst (Tells model routes c.args.i) c.in_default.is (row-told model routes c.args.i c.requires.front c.in_ok-found.found c.in_ok-found.ensures) in
+    let none = subst (Tells model routes c.args.i) c.in_default.is
+    (row-told model routes c.args.i c.requires.front c.in_ok-found.found c.in_ok-found.ensures) in
     λ j low may. absurd (none j low may)
 
 pub returns-then-improves-clause-best : goal.returns-then-improves-clause-best
@@ -39,7 +42,8 @@ returns-then-improves-clause-bound c =
     let model = c.args.lookups.now.closed.model.now in
     let routes = c.args.step.routes.now in
     let fits : to_z w64 (of_z w64 c.in-Some.next.saving) ≡ c.in-Some.next.saving = search rules in
-    subst (IsBound model routes (route routes c.args.i)) (sym fits) (subst (Tells model routes c.args.i) c.in-Some.is (row-told model routes c.args.i c.requires.front c.in_ok-found.found c.in_ok-found.ensures))
+    subst (IsBound model routes (route routes c.args.i)) (sym fits)
+    (subst (Tells model routes c.args.i) c.in-Some.is (row-told model routes c.args.i c.requires.front c.in_ok-found.found c.in_ok-found.ensures))
 
 pub returns-else-improves-clause-best : goal.returns-else-improves-clause-best
 returns-else-improves-clause-best c =
@@ -54,4 +58,5 @@ returns-else-improves-clause-bound c =
     let model = c.args.lookups.now.closed.model.now in
     let routes = c.args.step.routes.now in
     let fits : to_z w64 (of_z w64 c.in-Some.next.saving) ≡ c.in-Some.next.saving = search rules in
-    subst (IsBound model routes (route routes c.args.i)) (sym fits) (subst (Tells model routes c.args.i) c.in-Some.is (row-told model routes c.args.i c.requires.front c.in_ok-found.found c.in_ok-found.ensures))
+    subst (IsBound model routes (route routes c.args.i)) (sym fits)
+    (subst (Tells model routes c.args.i) c.in-Some.is (row-told model routes c.args.i c.requires.front c.in_ok-found.found c.in_ok-found.ensures))

@@ -12,7 +12,8 @@ returns-clause-savings c =
     let model = c.args.lookups.now.closed.model.now in
     let joined = c.in_ok-routes.ensures.merged ∙ ap (λ singles. merged model (length singles) singles) c.in_ok-singles.ensures.singles in
     subst (λ l. IfOk c.lists_of.result (λ lists. lists.items ≡ l))
-    (ap (λ routes. take (length model.vehicles) (routes ++ empty_lists model)) (c.in_ok-ranked.ensures ∙ (λ i. ranked (c.nodes-nodes.ensures i) (c.deref.ensures.value i)) ∙ ap (ranked model) joined))
+    (ap (λ routes. take (length model.vehicles) (routes ++ empty_lists model))
+    (c.in_ok-ranked.ensures ∙ (λ i. ranked (c.nodes-nodes.ensures i) (c.deref.ensures.value i)) ∙ ap (ranked model) joined))
     c.lists_of.ensures
 
 pub returns-clause-lists : goal.returns-clause-lists
@@ -21,5 +22,6 @@ returns-clause-lists c =
     let routes : List (List ℕ) = c.in_ok-routes.routes.items in
     let same = c.in_ok-ranked.ensures ∙ (λ i. ranked (c.nodes-nodes.ensures i) (c.deref.ensures.value i)) in
     IfOk-weaker c.lists_of.result _ (λ lists. IsTrue (are_lists model lists.items))
-    (λ lists is. ap (are_lists model) (is ∙ ap (λ routes. take (length model.vehicles) (routes ++ empty_lists model)) same) ∙ are_lists-first model (ranked model routes) (AreApart-ranked model routes c.in_ok-routes.ensures.apart))
+    (λ lists is. ap (are_lists model) (is ∙ ap (λ routes. take (length model.vehicles) (routes ++ empty_lists model)) same)
+    ∙ are_lists-first model (ranked model routes) (AreApart-ranked model routes c.in_ok-routes.ensures.apart))
     c.lists_of.ensures

@@ -16,11 +16,13 @@ returns-in_err-routes-clause-found c = then _ c.in_ok-model.ensures (stops _ _ c
 
 pub returns-in_err-wish-clause-found : goal.returns-in_err-wish-clause-found
 unfolding given_at
-returns-in_err-wish-clause-found c = then _ c.in_ok-model.ensures (then _ c.in_ok-routes.ensures (stops _ _ c.in_err-wish.ensures c.from_residual-in_err-wish.ensures.1))
+returns-in_err-wish-clause-found c =
+    then _ c.in_ok-model.ensures (then _ c.in_ok-routes.ensures (stops _ _ c.in_err-wish.ensures c.from_residual-in_err-wish.ensures.1))
 
 pub returns-in_err-known-clause-found : goal.returns-in_err-known-clause-found
 unfolding given_at
-returns-in_err-known-clause-found c = then _ c.in_ok-model.ensures (then _ c.in_ok-routes.ensures (then _ c.in_ok-wish.ensures (stops _ _ c.in_err-known.ensures c.from_residual-in_err-known.ensures.1)))
+returns-in_err-known-clause-found c = then _ c.in_ok-model.ensures
+    (then _ c.in_ok-routes.ensures (then _ c.in_ok-wish.ensures (stops _ _ c.in_err-known.ensures c.from_residual-in_err-known.ensures.1)))
 
 pub returns-clause-found : goal.returns-clause-found
 unfolding given_at

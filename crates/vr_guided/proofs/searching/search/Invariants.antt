@@ -19,7 +19,9 @@ invariant-scans g l = record {
   route_sums : AreAllRouteSums l.closed.model.now (counted l.state.penalties) l.routes.lists l.state.route_sums;
   asked : AsksOn g.J.Judge.asked g.J.Judge.looked l.fn.judge l.judge l.fn.state.at.used l.state.at.used;
   no_dearer : l.state.best.cost ≤ℤ l.fn.state.best.cost;
-  goes : Goes (λ w. (goal.Watch-dyn g (w.vtable, w.value)).after w.value) (guided_from_state l.closed.model.now l.parameters.limit l.parameters.lambda l.fn.routes.lists l.fn.state) (guided_from_state l.closed.model.now l.parameters.limit l.parameters.lambda l.routes.lists l.state) l.fn.watch.items l.watch.items;
+  goes : Goes (λ w. (goal.Watch-dyn g (w.vtable, w.value)).after w.value)
+      (guided_from_state l.closed.model.now l.parameters.limit l.parameters.lambda l.fn.routes.lists l.fn.state)
+      (guided_from_state l.closed.model.now l.parameters.limit l.parameters.lambda l.routes.lists l.state) l.fn.watch.items l.watch.items;
   known : AreRefused l.closed.model.now (makes_less l.closed.model.now l.parameters.lambda (counted l.state.penalties)) l.routes.lists l.known;
   learns : Learns l.known → HasNoGlobalSpans l.closed.model.now;
 }

@@ -22,12 +22,15 @@ pub returns-in_err-other-in-len2 : goal.returns-in_err-other-in-len2
 unfolding first_two
 returns-in_err-other-in-len2 g c =
     let is = two c.args.items.now c.first-item.result c.second-item.result c.in-len2.len_at_least c.in-len2.len_below c.first-item.is c.second-item.is in
-    subst (λ items. Answers c.from_residual-in_err-other-in-len2.result (first_two (g.R.Reader.reads c.args.entry.now []) c.args.path.now (map view items))) (sym is)
-    (rw (← c.entry.ensures, ← c.entry-in-len2.ensures) (then _ c.in_ok-one-in-len2.ensures (stops _ _ c.in_err-other-in-len2.ensures c.from_residual-in_err-other-in-len2.ensures.1)))
+    subst (λ items. Answers c.from_residual-in_err-other-in-len2.result (first_two (g.R.Reader.reads c.args.entry.now []) c.args.path.now (map view items)))
+    (sym is)
+    (rw (← c.entry.ensures, ← c.entry-in-len2.ensures)
+    (then _ c.in_ok-one-in-len2.ensures (stops _ _ c.in_err-other-in-len2.ensures c.from_residual-in_err-other-in-len2.ensures.1)))
 
 pub returns-in_ok-other-in-len2 : goal.returns-in_ok-other-in-len2
 unfolding first_two
 returns-in_ok-other-in-len2 g c =
     let is = two c.args.items.now c.first-item.result c.second-item.result c.in-len2.len_at_least c.in-len2.len_below c.first-item.is c.second-item.is in
-    subst (λ items. Answers (Ok (c.in_ok-one-in-len2.one, c.in_ok-other-in-len2.other)) (first_two (g.R.Reader.reads c.args.entry.now []) c.args.path.now (map view items))) (sym is)
+    subst (λ items. Answers (Ok (c.in_ok-one-in-len2.one, c.in_ok-other-in-len2.other))
+    (first_two (g.R.Reader.reads c.args.entry.now []) c.args.path.now (map view items))) (sym is)
     (rw (← c.entry.ensures, ← c.entry-in-len2.ensures) (then _ c.in_ok-one-in-len2.ensures (then _ c.in_ok-other-in-len2.ensures (gives refl))))

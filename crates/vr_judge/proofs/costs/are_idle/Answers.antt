@@ -38,7 +38,8 @@ returns-then-is_idle-2-clause-idle c =
     let model = c.args.fixed.now.model in
     let two = c.if-is_idle-2.true in
     let both : (not (is_some_fixed model) && pays_no_plan model) ≡ true = elim c.if-is_idle.branch [
-      | then-is_idle w ↦ both_are _ _ _ _ (sym c.is_idle.ensures.idle ∙ w.if-is_idle.true) (sym (w.is_idle-then-is_idle.ensures.idle ∙ ap pays_no_plan c.requires.plans_model)) cc
+      | then-is_idle w ↦ both_are _ _ _ _ (sym c.is_idle.ensures.idle ∙ w.if-is_idle.true)
+          (sym (w.is_idle-then-is_idle.ensures.idle ∙ ap pays_no_plan c.requires.plans_model)) cc
       | else-is_idle w ↦ not-both _ two (w.value-is ∙ w.if-is_idle.false)
     ] in
     c.is_idle-then-is_idle-2.ensures.idle ∙ ap (λ m. not (is_some_spanned m)) c.requires.spans_model ∙ sym (ap (λ b. b && not (is_some_spanned model)) both)
@@ -48,7 +49,8 @@ returns-else-is_idle-2-clause-idle c =
     let model = c.args.fixed.now.model in
     let two = c.if-is_idle-2.false in
     let both : (not (is_some_fixed model) && pays_no_plan model) ≡ false = elim c.if-is_idle.branch [
-      | then-is_idle w ↦ both_are _ _ _ _ (sym c.is_idle.ensures.idle ∙ w.if-is_idle.true) (sym (w.is_idle-then-is_idle.ensures.idle ∙ ap pays_no_plan c.requires.plans_model)) cc
+      | then-is_idle w ↦ both_are _ _ _ _ (sym c.is_idle.ensures.idle ∙ w.if-is_idle.true)
+          (sym (w.is_idle-then-is_idle.ensures.idle ∙ ap pays_no_plan c.requires.plans_model)) cc
       | else-is_idle w ↦ ap (λ b. b && pays_no_plan model) (sym c.is_idle.ensures.idle ∙ w.if-is_idle.false)
     ] in
     as_false _ _ two (ap (λ b. b && not (is_some_spanned model)) both)

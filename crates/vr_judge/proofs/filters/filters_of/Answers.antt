@@ -27,27 +27,32 @@ pub open-groups-requires-clause-many : goal.open-groups-requires-clause-many
 open-groups-requires-clause-many c = many c.args.lookups.now.closed.model.now c.args.routes.now.lists c.requires.valid
 
 pub open-groups-requires-clause-rule : goal.open-groups-requires-clause-rule
-open-groups-requires-clause-rule c = and_left (keeps_groups c.args.lookups.now.closed.model.now c.args.routes.now.lists) _ (kept_where_valid c.args.lookups.now.closed.model.now c.args.routes.now.lists c.requires.valid)
+open-groups-requires-clause-rule c = and_left (keeps_groups c.args.lookups.now.closed.model.now c.args.routes.now.lists)
+    _ (kept_where_valid c.args.lookups.now.closed.model.now c.args.routes.now.lists c.requires.valid)
 
 pub over-vehicles-requires : goal.over-vehicles-requires
 over-vehicles-requires c = record {
   visits_are = c.requires.of_model;
   list_of_each = many c.args.lookups.now.closed.model.now c.args.routes.now.lists c.requires.valid;
-  rule_holds = and_left (holds_of_each (is_allowed_list c.args.lookups.now.closed.model.now) c.args.routes.now.lists) _ (behind_groups c.args.lookups.now.closed.model.now c.args.routes.now.lists c.requires.valid);
+  rule_holds = and_left (holds_of_each (is_allowed_list c.args.lookups.now.closed.model.now) c.args.routes.now.lists)
+      _ (behind_groups c.args.lookups.now.closed.model.now c.args.routes.now.lists c.requires.valid);
 }
 
 pub over-pairs-requires : goal.over-pairs-requires
 over-pairs-requires c = record {
   visits_are = c.requires.of_model;
   list_of_each = many c.args.lookups.now.closed.model.now c.args.routes.now.lists c.requires.valid;
-  rule_holds = and_left (holds_of_each (keeps_pairs c.args.lookups.now.closed.model.now) c.args.routes.now.lists) _ (behind_vehicles c.args.lookups.now.closed.model.now c.args.routes.now.lists c.requires.valid);
+  rule_holds = and_left (holds_of_each (keeps_pairs c.args.lookups.now.closed.model.now) c.args.routes.now.lists)
+      _ (behind_vehicles c.args.lookups.now.closed.model.now c.args.routes.now.lists c.requires.valid);
 }
 
 pub filters_of_dimensions-dimensions-requires-clause-many : goal.filters_of_dimensions-dimensions-requires-clause-many
 filters_of_dimensions-dimensions-requires-clause-many c = many c.args.lookups.now.closed.model.now c.args.routes.now.lists c.requires.valid
 
 pub filters_of_dimensions-dimensions-requires-clause-feasible : goal.filters_of_dimensions-dimensions-requires-clause-feasible
-filters_of_dimensions-dimensions-requires-clause-feasible c = and_right (holds_of_each (keeps_pairs c.args.lookups.now.closed.model.now) c.args.routes.now.lists) _ (behind_vehicles c.args.lookups.now.closed.model.now c.args.routes.now.lists c.requires.valid)
+filters_of_dimensions-dimensions-requires-clause-feasible c =
+    and_right (holds_of_each (keeps_pairs c.args.lookups.now.closed.model.now) c.args.routes.now.lists)
+    _ (behind_vehicles c.args.lookups.now.closed.model.now c.args.routes.now.lists c.requires.valid)
 
 pub returns-clause-rules : goal.returns-clause-rules
 returns-clause-rules c = λ lists.

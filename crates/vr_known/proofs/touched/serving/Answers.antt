@@ -12,4 +12,5 @@ returns-in-None-clause-holds c =
     let pickup = (pair_at model c.args.p).pickup in
     let same : c.get.result.now ≡ pair_at model c.args.p = sym (c.get.ensures.value (record { pickup = 0; delivery = 0 })) in
     let at = serves_together model lists c.args.p c.requires.together in
-    absurd (clash (is_active lists pickup) (active_held lists pickup at.vehicle at.low at.picks) (ap (λ q. is_active lists q.pickup) (sym same) ∙ c.in-None.ensures))
+    absurd (clash (is_active lists pickup) (active_held lists pickup at.vehicle at.low at.picks)
+    (ap (λ q. is_active lists q.pickup) (sym same) ∙ c.in-None.ensures))

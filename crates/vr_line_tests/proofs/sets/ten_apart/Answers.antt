@@ -9,8 +9,28 @@ returns c =
     let order = c.requires.in_order in
     let high = c.requires.greatest in
     five_short _ _ _ _ _
-    (record { least = omega (arith, ints, low, order, high); in_order = omega (arith, ints, low, order, high); greatest = omega (arith, ints, low, order, high) })
-    (record { least = omega (arith, ints, low, order, high); in_order = omega (arith, ints, low, order, high); greatest = omega (arith, ints, low, order, high) })
-    (record { least = omega (arith, ints, low, order, high); in_order = omega (arith, ints, low, order, high); greatest = omega (arith, ints, low, order, high) })
-    (record { least = omega (arith, ints, low, order, high); in_order = omega (arith, ints, low, order, high); greatest = omega (arith, ints, low, order, high) })
-    (record { least = omega (arith, ints, low, order, high); in_order = omega (arith, ints, low, order, high); greatest = omega (arith, ints, low, order, high) })
+    (record {
+      least = omega (arith, ints, low, order, high);
+      in_order = omega (arith, ints, low, order, high);
+      greatest = omega (arith, ints, low, order, high);
+    })
+    (record {
+      least = omega (arith, ints, low, order, high);
+      in_order = omega (arith, ints, low, order, high);
+      greatest = omega (arith, ints, low, order, high);
+    })
+    (record {
+      least = omega (arith, ints, low, order, high);
+      in_order = omega (arith, ints, low, order, high);
+      greatest = omega (arith, ints, low, order, high);
+    })
+    (record {
+      least = omega (arith, ints, low, order, high);
+      in_order = omega (arith, ints, low, order, high);
+      greatest = omega (arith, ints, low, order, high);
+    })
+    (record {
+      least = omega (arith, ints, low, order, high);
+      in_order = omega (arith, ints, low, order, high);
+      greatest = omega (arith, ints, low, order, high);
+    })

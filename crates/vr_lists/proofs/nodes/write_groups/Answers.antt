@@ -16,7 +16,9 @@ loop-g-preserved c =
     record {
       within = omega (arith, m.within);
       long = c.write_each.ensures.count ∙ m.long;
-      each = λ node within. numbers_step (λ (group : Group). holds group.nodes node) groups k c.loop-g.g group (node_number c.loop-g.numbers node) (node_number c.write_each.new.values node)
+      each = λ node within. numbers_step (λ (group : Group). holds group.nodes node) groups k
+          c.loop-g.g group (node_number c.loop-g.numbers node) (node_number c.write_each.new.values node)
           more low (c.get.ensures.value group) (m.each node within)
-          (c.write_each.ensures.each node 0 (omega (arith, within, m.long)) ∙ ap (λ nodes. cond (holds nodes node) k (node_number c.loop-g.numbers node)) c.as_slice.ensures);
+          (c.write_each.ensures.each node 0 (omega (arith, within, m.long))
+          ∙ ap (λ nodes. cond (holds nodes node) k (node_number c.loop-g.numbers node)) c.as_slice.ensures);
     }

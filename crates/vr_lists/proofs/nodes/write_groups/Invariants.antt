@@ -9,7 +9,8 @@ abbrev pub invariant-loop-g : goal.invariant-loop-g
 invariant-loop-g l = record {
   within : l.g ≤ length l.closed.model.now.groups;
   long : length l.numbers ≡ l.closed.model.now.nodes;
-  each : (node : ℕ) → node < l.closed.model.now.nodes → node_number l.numbers node ≡ l.g + position_or_len (λ group. holds group.nodes node) (drop l.g l.closed.model.now.groups);
+  each : (node : ℕ) → node < l.closed.model.now.nodes
+      → node_number l.numbers node ≡ l.g + position_or_len (λ group. holds group.nodes node) (drop l.g l.closed.model.now.groups);
 }
 
 abbrev pub decreases-loop-g : goal.decreases-loop-g

@@ -24,7 +24,8 @@ loop-k-preserved c =
     record {
       within = omega (arith, m.within);
       long = length-set (slice_set numbers pair.pickup k) pair.delivery k ∙ length-set numbers pair.pickup k ∙ m.long;
-      each = λ node within. numbers_step (λ (pair : Pair). (pair.pickup == node) || (pair.delivery == node)) model.pairs k c.loop-k.k pair (node_number numbers node)
+      each = λ node within. numbers_step (λ (pair : Pair). (pair.pickup == node) || (pair.delivery == node))
+          model.pairs k c.loop-k.k pair (node_number numbers node)
           (node_number (slice_set (slice_set numbers pair.pickup k) pair.delivery k) node)
           more low is (m.each node within) (set_two numbers pair.pickup pair.delivery k node (omega (arith, pickup, m.long)) (omega (arith, delivery, m.long)));
     }

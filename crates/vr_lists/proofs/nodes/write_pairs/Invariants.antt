@@ -9,7 +9,8 @@ abbrev pub invariant-loop-k : goal.invariant-loop-k
 invariant-loop-k l = record {
   within : l.k ≤ length l.closed.model.now.pairs;
   long : length l.numbers ≡ l.closed.model.now.nodes;
-  each : (node : ℕ) → node < l.closed.model.now.nodes → node_number l.numbers node ≡ l.k + position_or_len (λ pair. (pair.pickup == node) || (pair.delivery == node)) (drop l.k l.closed.model.now.pairs);
+  each : (node : ℕ) → node < l.closed.model.now.nodes
+      → node_number l.numbers node ≡ l.k + position_or_len (λ pair. (pair.pickup == node) || (pair.delivery == node)) (drop l.k l.closed.model.now.pairs);
 }
 
 abbrev pub decreases-loop-k : goal.decreases-loop-k

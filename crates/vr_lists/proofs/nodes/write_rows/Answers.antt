@@ -15,11 +15,14 @@ loop-k-preserved c =
     let low : k < length model.allowed = omega (arith, c.loop-k-test.true, c.loop-k.invariant.within) in
     let row = c.get.result.now in
     let is : get_or model.allowed k row ≡ row = c.get.ensures.value row in
-    let visit : IsTrue (is_visit model row.node) = subst (λ (r : Allowed). IsTrue (is_visit model r.node)) is (c.args.closed.well_formed.each_allowed k row low).node_is_visit in
+    let visit : IsTrue (is_visit model row.node) = subst (λ (r : Allowed). IsTrue (is_visit model r.node))
+    is (c.args.closed.well_formed.each_allowed k row low).node_is_visit in
     let here = visit_below model row.node visit in
     record {
       within = omega (arith, c.loop-k.invariant.within);
       long = length-set c.loop-k.numbers row.node k ∙ c.loop-k.invariant.long;
-      each = λ node within. numbers_step (λ (row : Allowed). row.node == node) model.allowed k c.loop-k.k row (node_number c.loop-k.numbers node) (node_number (slice_set c.loop-k.numbers row.node k) node)
-          (omega (arith, c.loop-k-test.true)) low is (c.loop-k.invariant.each node within) (set_number c.loop-k.numbers row.node k node (omega (arith, here, c.loop-k.invariant.long)));
+      each = λ node within. numbers_step (λ (row : Allowed). row.node == node) model.allowed k c.loop-k.k
+          row (node_number c.loop-k.numbers node) (node_number (slice_set c.loop-k.numbers row.node k) node)
+          (omega (arith, c.loop-k-test.true)) low is (c.loop-k.invariant.each node within)
+          (set_number c.loop-k.numbers row.node k node (omega (arith, here, c.loop-k.invariant.long)));
     }

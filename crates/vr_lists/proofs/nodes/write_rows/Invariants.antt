@@ -9,7 +9,8 @@ abbrev pub invariant-loop-k : goal.invariant-loop-k
 invariant-loop-k l = record {
   within : l.k ≤ length l.closed.model.now.allowed;
   long : length l.numbers ≡ l.closed.model.now.nodes;
-  each : (node : ℕ) → node < l.closed.model.now.nodes → node_number l.numbers node ≡ l.k + position_or_len (λ row. row.node == node) (drop l.k l.closed.model.now.allowed);
+  each : (node : ℕ) → node < l.closed.model.now.nodes
+      → node_number l.numbers node ≡ l.k + position_or_len (λ row. row.node == node) (drop l.k l.closed.model.now.allowed);
 }
 
 abbrev pub decreases-loop-k : goal.decreases-loop-k

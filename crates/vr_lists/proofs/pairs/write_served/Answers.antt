@@ -21,7 +21,9 @@ loop-k-preserved c =
     let at_delivery = c.requires.places.each pair.delivery 0 (visit_below model pair.delivery visits.delivery_is_visit) in
     elim c.if-pickup-list.branch [
       | then-pickup-list w ↦ record {
-        written = ap (λ s. s.items) w.served-is ∙ w.push.ensures.items ∙ ap (λ s. s ++ record { pickup = slice_index_or places pair.pickup 0; delivery = slice_index_or places pair.delivery 0 } ∷ []) c.loop-k.invariant.written
+        written = ap (λ s. s.items) w.served-is ∙ w.push.ensures.items
+            ∙ ap (λ s. s ++ record { pickup = slice_index_or places pair.pickup 0; delivery = slice_index_or places pair.delivery 0 } ∷ [])
+            c.loop-k.invariant.written
             ∙ served_in-there list pair _ _ at_pickup at_delivery model.pairs k low c.get-pair.ensures.value w.if-pickup-list.true;
         few = subst (λ s. array_vec_len s ≤ k + 1) (sym w.served-is) (let n = w.push.ensures.len in let m = c.loop-k.invariant.few in omega (arith, n, m));
       }

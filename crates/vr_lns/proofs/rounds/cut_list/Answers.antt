@@ -12,7 +12,8 @@ returns-then-place-rest g c =
     let k = c.args.cutting.now in
     let lists = c.args.routes.now.lists in
     let accepted = accepted_by k.model k.most lists in
-    let opens = next_cut (round_from c.loop-a.place accepted c.args.rest) c.args.v (length (route lists c.args.v)) c.loop-a.a _ c.loop-a.invariant.left (omega (arith, c.loop-a-test.true, c.len-a-end.ensures.value)) in
+    let opens = next_cut (round_from c.loop-a.place accepted c.args.rest) c.args.v (length (route lists c.args.v))
+    c.loop-a.a _ c.loop-a.invariant.left (omega (arith, c.loop-a-test.true, c.len-a-end.ensures.value)) in
     let rest = map (cut_at c.args.v) (from_to (c.loop-a.a + 1) (length (route lists c.args.v))) in
     let short = sym (short_here accepted c.args.rest c.loop-a.place (cut_at c.args.v c.loop-a.a) rest c.if-place-rest.true) ∙ opens in
     record {
@@ -30,11 +31,13 @@ returns-then-branch g c =
     let k = c.args.cutting.now in
     let lists = c.args.routes.now.lists in
     let accepted = accepted_by k.model k.most lists in
-    let opens = next_cut (round_from c.loop-a.place accepted c.args.rest) c.args.v (length (route lists c.args.v)) c.loop-a.a _ c.loop-a.invariant.left (omega (arith, c.loop-a-test.true, c.len-a-end.ensures.value)) in
+    let opens = next_cut (round_from c.loop-a.place accepted c.args.rest) c.args.v (length (route lists c.args.v))
+    c.loop-a.a _ c.loop-a.invariant.left (omega (arith, c.loop-a-test.true, c.len-a-end.ensures.value)) in
     let rest = map (cut_at c.args.v) (from_to (c.loop-a.a + 1) (length (route lists c.args.v))) in
     let same = ap₂ (λ k ls. accepted_by k.model k.most ls (cut_at c.args.v c.loop-a.a)) c.loop-a.invariant.cutter c.loop-a.invariant.lists in
     let tries : c.loop-a.place < c.args.rest = omega (arith, c.loop-a.invariant.within, c.if-place-rest.false) in
-    let taken = taken_here accepted c.args.rest c.loop-a.place (cut_at c.args.v c.loop-a.a) rest _ opens tries (sym (ap is_taken_over same) ∙ (sym c.in_ok-try_cut.ensures.taken ∙ c.if-branch.true)) in
+    let taken = taken_here accepted c.args.rest c.loop-a.place (cut_at c.args.v c.loop-a.a) rest _ opens
+    tries (sym (ap is_taken_over same) ∙ (sym c.in_ok-try_cut.ensures.taken ∙ c.if-branch.true)) in
     record {
       ends = ap round_end (sym taken.2);
       lists = c.in_ok-try_cut.ensures.lists ∙ ap (lists_after c.loop-a.routes.lists) (same ∙ taken.1) ∙ ap (lists_after_round lists) (sym taken.2);
@@ -50,7 +53,8 @@ loop-a-preserved g c =
     let k = c.args.cutting.now in
     let accepted = accepted_by k.model k.most c.args.routes.now.lists in
     let list = route c.args.routes.now.lists c.args.v in
-    let opens = next_cut (round_from c.loop-a.place accepted c.args.rest) c.args.v (length list) c.loop-a.a _ c.loop-a.invariant.left (omega (arith, c.loop-a-test.true, c.len-a-end.ensures.value)) in
+    let opens = next_cut (round_from c.loop-a.place accepted c.args.rest) c.args.v (length list)
+    c.loop-a.a _ c.loop-a.invariant.left (omega (arith, c.loop-a-test.true, c.len-a-end.ensures.value)) in
     let rest = map (cut_at c.args.v) (from_to (c.loop-a.a + 1) (length list)) in
     let same = ap₂ (λ k ls. accepted_by k.model k.most ls (cut_at c.args.v c.loop-a.a)) c.loop-a.invariant.cutter c.loop-a.invariant.lists in
     let none = not_taken (accepted (cut_at c.args.v c.loop-a.a)) (sym (ap is_taken_over same) ∙ (sym c.in_ok-try_cut.ensures.taken ∙ c.if-branch.false)) in

@@ -16,6 +16,7 @@ invariant-loop-a g l = record {
   knows : g.R.Rebuild.knows l.rebuild l.fn.cutting.model;
   within : l.place ≤ l.rest;
   made : g.R.Rebuild.made l.rebuild + l.tried ≤ g.R.Rebuild.made l.fn.rebuild + l.place;
-  left : round_from l.place (accepted_by l.fn.cutting.model l.fn.cutting.most l.fn.routes.lists) l.rest (map (cut_at l.v) (from_to l.a (length (route l.fn.routes.lists l.v))))
+  left : round_from l.place (accepted_by l.fn.cutting.model l.fn.cutting.most l.fn.routes.lists)
+      l.rest (map (cut_at l.v) (from_to l.a (length (route l.fn.routes.lists l.v))))
       ≡ round_from l.tried (accepted_by l.fn.cutting.model l.fn.cutting.most l.fn.routes.lists) l.rest (cuts_of l.v (route l.fn.routes.lists l.v));
 }

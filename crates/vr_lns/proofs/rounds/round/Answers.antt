@@ -27,14 +27,18 @@ abbrev here : (g : Over) → In_ok-ended g → Round
 here g c = round_from c.loop-v.tried (accepted g c) c.args.rest (cuts g c c.loop-v.v)
 
 -- that of all cuts goes on behind it
-whole : (g : Over) (c : In_ok-ended g) → round_behind (accepted g c) c.args.rest (behind g c) (here g c) ≡ round c.args.cutting.now.model c.args.cutting.now.most c.args.routes.now.lists c.args.rest
+whole : (g : Over) (c : In_ok-ended g) → round_behind (accepted g c) c.args.rest (behind g c) (here g c)
+    ≡ round c.args.cutting.now.model c.args.cutting.now.most c.args.routes.now.lists c.args.rest
 whole g c =
     sym (round_both (accepted g c) c.args.rest c.loop-v.tried (cuts g c c.loop-v.v) (behind g c))
-    ∙ walk_opens (λ vs. round_from c.loop-v.tried (accepted g c) c.args.rest (each vs (cuts g c))) (length c.args.routes.now.lists) c.loop-v.v c.loop-v.invariant.left (omega (arith, c.loop-v-test.true, c.vehicles-v-end.ensures.value))
+    ∙ walk_opens (λ vs. round_from c.loop-v.tried (accepted g c) c.args.rest (each vs (cuts g c))) (length c.args.routes.now.lists)
+    c.loop-v.v c.loop-v.invariant.left (omega (arith, c.loop-v-test.true, c.vehicles-v-end.ensures.value))
 
 -- it is that of the lists as they stand
-same : (g : Over) (c : In_ok-ended g) → round_from c.loop-v.tried (accepted_by c.loop-v.cutting.model c.loop-v.cutting.most c.loop-v.routes.lists) c.args.rest (cuts_of c.loop-v.v (route c.loop-v.routes.lists c.loop-v.v)) ≡ here g c
-same g c = ap₂ (λ k ls. round_from c.loop-v.tried (accepted_by k.model k.most ls) c.args.rest (cuts_of c.loop-v.v (route ls c.loop-v.v))) c.loop-v.invariant.cutter c.loop-v.invariant.lists
+same : (g : Over) (c : In_ok-ended g) → round_from c.loop-v.tried (accepted_by c.loop-v.cutting.model c.loop-v.cutting.most c.loop-v.routes.lists)
+    c.args.rest (cuts_of c.loop-v.v (route c.loop-v.routes.lists c.loop-v.v)) ≡ here g c
+same g c = ap₂ (λ k ls. round_from c.loop-v.tried (accepted_by k.model k.most ls) c.args.rest (cuts_of c.loop-v.v (route ls c.loop-v.v)))
+    c.loop-v.invariant.cutter c.loop-v.invariant.lists
 
 pub returns-in_default : goal.returns-in_default
 returns-in_default g c =
@@ -55,7 +59,8 @@ pub loop-v-preserved : goal.loop-v-preserved
 loop-v-preserved g c =
     let at = (goal.at.loop-v-preserved g c).In_ok-ended in
     let done = completed (here g at) c.in-Complete.length (sym c.in-Complete.is ∙ (c.in_ok-ended.ensures.ends ∙ ap round_end (same g at))) in
-    let within : c.in-Complete.length ≤ c.args.rest = subst (Tells (λ after. Unit {0}) c.args.rest c.loop-v.tried) done (round_tells (accepted g at) c.args.rest (λ after. Unit {0}) (λ at after e. tt) c.loop-v.tried (cuts g at c.loop-v.v)) in
+    let within : c.in-Complete.length ≤ c.args.rest = subst (Tells (λ after. Unit {0}) c.args.rest c.loop-v.tried) done
+    (round_tells (accepted g at) c.args.rest (λ after. Unit {0}) (λ at after e. tt) c.loop-v.tried (cuts g at c.loop-v.v)) in
     record {
       cutter = c.in_ok-ended.ensures.cutter ∙ c.loop-v.invariant.cutter;
       lists = c.in_ok-ended.ensures.lists ∙ ap₂ lists_after_round c.loop-v.invariant.lists (same g at ∙ done);

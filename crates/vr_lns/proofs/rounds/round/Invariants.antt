@@ -15,6 +15,7 @@ invariant-loop-v g l = record {
   knows : g.R.Rebuild.knows l.rebuild l.fn.cutting.model;
   within : l.tried ≤ l.rest;
   made : g.R.Rebuild.made l.rebuild ≤ g.R.Rebuild.made l.fn.rebuild + l.tried;
-  left : round_from l.tried (accepted_by l.fn.cutting.model l.fn.cutting.most l.fn.routes.lists) l.rest (each (from_to l.v (length l.fn.routes.lists)) λ v. cuts_of v (route l.fn.routes.lists v))
+  left : round_from l.tried (accepted_by l.fn.cutting.model l.fn.cutting.most l.fn.routes.lists)
+      l.rest (each (from_to l.v (length l.fn.routes.lists)) λ v. cuts_of v (route l.fn.routes.lists v))
       ≡ round l.fn.cutting.model l.fn.cutting.most l.fn.routes.lists l.rest;
 }

@@ -18,13 +18,18 @@ use Rattle.vr_lns.proofs.searching.lns_over.Goals as goal
 
 -- the search ends as the definition does
 abbrev Ends : (g : Over) (c : After-search g) → Report → Type 0
-Ends g c = SearchEndsAs (λ w. (goal.Watch-dyn g (w.vtable, w.value)).after w.value) (path_lns c.args.lookups.now.closed.model.now c.args.routes.now.lists c.args.limit c.args.cut) c.search.new.routes.lists c.args.watch.now.items c.search.new.watch.items
+Ends g c = SearchEndsAs (λ w. (goal.Watch-dyn g (w.vtable, w.value)).after w.value)
+    (path_lns c.args.lookups.now.closed.model.now c.args.routes.now.lists c.args.limit c.args.cut)
+    c.search.new.routes.lists c.args.watch.now.items c.search.new.watch.items
 
 ends : (g : Over) (c : After-search g) → IfOk c.search.result (Ends g c)
-ends g c = subst (λ k. IfOk c.search.result (SearchEndsAs (λ w. (goal.Watch-dyn g (w.vtable, w.value)).after w.value) (path_lns k.model c.args.routes.now.lists c.args.limit k.most) c.search.new.routes.lists c.args.watch.now.items c.search.new.watch.items)) c.in_ok-cutting.ensures c.search.ensures.ends
+ends g c = subst (λ k. IfOk c.search.result
+    (SearchEndsAs (λ w. (goal.Watch-dyn g (w.vtable, w.value)).after w.value) (path_lns k.model c.args.routes.now.lists c.args.limit k.most)
+    c.search.new.routes.lists c.args.watch.now.items c.search.new.watch.items)) c.in_ok-cutting.ensures c.search.ensures.ends
 
 -- what the definition gives is sound
-sound : (g : Over) (c : After-search g) → IsSoundAtLast c.args.lookups.now.closed.model.now c.args.routes.now.lists c.args.limit (path_lns c.args.lookups.now.closed.model.now c.args.routes.now.lists c.args.limit c.args.cut)
+sound : (g : Over) (c : After-search g) → IsSoundAtLast c.args.lookups.now.closed.model.now c.args.routes.now.lists
+    c.args.limit (path_lns c.args.lookups.now.closed.model.now c.args.routes.now.lists c.args.limit c.args.cut)
 sound g c = path_lns_is_sound c.args.lookups.now.closed.model.now c.args.routes.now.lists c.args.limit c.args.cut c.requires.valid c.requires.limit.one_solution
 
 pub returns-in_err-cutting-clause-told_in_part : goal.returns-in_err-cutting-clause-told_in_part
@@ -38,7 +43,9 @@ returns-clause-ended g c =
     let lists = c.args.routes.now.lists in
     let limit = c.args.limit in
     let at = sound g here in
-    IfOk-weaker c.search.result (Ends g here) (λ report. HasEnded (λ w. (goal.Watch-dyn g (w.vtable, w.value)).after w.value) model limit (path_lns model lists limit c.args.cut) c.args.routes.now c.search.new.routes c.args.watch.now.items c.search.new.watch.items report c.search.new.routes)
+    IfOk-weaker c.search.result (Ends g here)
+    (λ report. HasEnded (λ w. (goal.Watch-dyn g (w.vtable, w.value)).after w.value) model limit (path_lns model lists limit c.args.cut)
+    c.args.routes.now c.search.new.routes c.args.watch.now.items c.search.new.watch.items report c.search.new.routes)
     (λ report e. let best = e.lists_are ∙ at.last_is_best in record {
       report = e.report_is;
       last = e.lists_are;
@@ -54,4 +61,6 @@ returns-clause-ended g c =
 
 pub returns-clause-told_in_part : goal.returns-clause-told_in_part
 returns-clause-told_in_part g c =
-    subst (λ k. OnErr c.search.result (ReportedInPart (λ w. (goal.Watch-dyn g (w.vtable, w.value)).after w.value) c.args.watch.now.items c.search.new.watch.items (path_lns k.model c.args.routes.now.lists c.args.limit k.most).events)) c.in_ok-cutting.ensures c.search.ensures.told_in_part
+    subst (λ k. OnErr c.search.result
+    (ReportedInPart (λ w. (goal.Watch-dyn g (w.vtable, w.value)).after w.value) c.args.watch.now.items c.search.new.watch.items
+    (path_lns k.model c.args.routes.now.lists c.args.limit k.most).events)) c.in_ok-cutting.ensures c.search.ensures.told_in_part

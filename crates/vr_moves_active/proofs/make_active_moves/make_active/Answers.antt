@@ -15,4 +15,6 @@ returns c model same =
     let nodes : List ℕ = c.inactive-nodes.result.now in
     let of : ℕ → List Move = λ u. each (vehicles lists) (λ w. map (MakeActive u w) (gaps (route lists w))) in
     let at : ℕ → List Move = λ k. of (slice_index nodes k) in
-    c.new-2.ensures ∙ c.new.ensures ∙ (joined_all_below at (length nodes) ∙ each_places of nodes ∙ ap (λ l. each l of) (c.inactive-nodes.ensures.value ∙ ap (λ l. inactive_of l lists) same))
+    c.new-2.ensures ∙ c.new.ensures
+    ∙ (joined_all_below at (length nodes) ∙ each_places of nodes
+    ∙ ap (λ l. each l of) (c.inactive-nodes.ensures.value ∙ ap (λ l. inactive_of l lists) same))

@@ -13,5 +13,6 @@ returns c model same =
     let lists : List (List ℕ) = c.args.routes.now.lists in
     let at : List ℕ → ℕ → List Move = λ nodes v. each (places (route lists v)) (λ a. map (SwapActive v a) nodes) in
     let nodes : List ℕ = c.inactive-nodes.result.now in
-    c.new-2.ensures ∙ c.new.ensures ∙ (joined_all_below (at nodes) c.vehicles-vehicles.result ∙ ap (λ n. each (below n) (at nodes)) c.vehicles-vehicles.ensures.value
+    c.new-2.ensures ∙ c.new.ensures
+    ∙ (joined_all_below (at nodes) c.vehicles-vehicles.result ∙ ap (λ n. each (below n) (at nodes)) c.vehicles-vehicles.ensures.value
     ∙ ap (λ l. each (vehicles lists) (at l)) (c.inactive-nodes.ensures.value ∙ ap (λ l. inactive_of l lists) same))

@@ -11,5 +11,6 @@ use Rattle.vr_moves_cross.proofs.cross_moves.cross_chains.Goals as goal
 pub returns : goal.returns
 returns c model =
     let lists : List (List ℕ) = c.args.routes.now.lists in
-    let at : ℕ → List Move = λ v. each (gaps (route lists v)) (λ a. each (from_to (suc v) (length lists)) (λ w. map (Cross v a w) (filter (has_some_front a) (gaps (route lists w))))) in
+    let at : ℕ → List Move = λ v. each (gaps (route lists v))
+    (λ a. each (from_to (suc v) (length lists)) (λ w. map (Cross v a w) (filter (has_some_front a) (gaps (route lists w))))) in
     c.new-2.ensures ∙ c.new.ensures ∙ (joined_all_below at c.vehicles-vehicles.result ∙ ap (λ n. each (below n) at) c.vehicles-vehicles.ensures.value)

@@ -10,5 +10,6 @@ use Rattle.vr_moves_cross.proofs.exchange_moves.exchange.Goals as goal
 pub returns : goal.returns
 returns c model =
     let lists : List (List ℕ) = c.args.routes.now.lists in
-    let at : ℕ → List Move = λ v. each (places (route lists v)) (λ a. each (from_to v (length lists)) (λ w. map (Exchange v a w) (places_behind lists v a w))) in
+    let at : ℕ → List Move = λ v. each (places (route lists v))
+    (λ a. each (from_to v (length lists)) (λ w. map (Exchange v a w) (places_behind lists v a w))) in
     c.new-2.ensures ∙ c.new.ensures ∙ (joined_all_below at c.vehicles-vehicles.result ∙ ap (λ n. each (below n) at) c.vehicles-vehicles.ensures.value)

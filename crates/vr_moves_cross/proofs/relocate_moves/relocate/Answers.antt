@@ -11,5 +11,6 @@ use Rattle.vr_moves_cross.proofs.relocate_moves.relocate.Goals as goal
 pub returns : goal.returns
 returns c model =
     let lists : List (List ℕ) = c.args.routes.now.lists in
-    let at : ℕ → List Move = λ v. each (places (route lists v)) (λ a. each (filter (is_other v) (vehicles lists)) (λ w. map (Relocate v a w) (gaps (route lists w)))) in
+    let at : ℕ → List Move = λ v. each (places (route lists v))
+    (λ a. each (filter (is_other v) (vehicles lists)) (λ w. map (Relocate v a w) (gaps (route lists w)))) in
     c.new-2.ensures ∙ c.new.ensures ∙ (joined_all_below at c.vehicles-vehicles.result ∙ ap (λ n. each (below n) at) c.vehicles-vehicles.ensures.value)

@@ -12,5 +12,6 @@ pub returns : goal.returns
 returns c =
     let lists : List (List ℕ) = c.args.routes.now.lists in
     let free = is_pair_inactive c.args.model.now lists in
-    let at : ℕ → List Move = λ p. each (vehicles lists) (λ w. each (gaps (route lists w)) (λ i. map (PairActive p w i) (from_to i (suc (length (route lists w)))))) in
+    let at : ℕ → List Move = λ p. each (vehicles lists)
+    (λ w. each (gaps (route lists w)) (λ i. map (PairActive p w i) (from_to i (suc (length (route lists w)))))) in
     c.new-2.ensures ∙ c.new.ensures ∙ (joined_below free at c.len-count.result ∙ ap (λ n. each (filter free (below n)) at) c.len-count.ensures)

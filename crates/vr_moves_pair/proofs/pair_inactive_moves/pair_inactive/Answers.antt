@@ -9,4 +9,5 @@ use Rattle.vr_moves_pair.proofs.pair_inactive_moves.pair_inactive.Goals as goal
 pub returns : goal.returns
 returns c =
     let together = is_pair_together c.args.model.now c.args.routes.now.lists in
-    c.new-2.ensures ∙ c.new.ensures.rest ∙ (run_below together PairInactive c.len-count.result ∙ ap (λ n. map PairInactive (filter together (below n))) c.len-count.ensures)
+    c.new-2.ensures ∙ c.new.ensures.rest
+    ∙ (run_below together PairInactive c.len-count.result ∙ ap (λ n. map PairInactive (filter together (below n))) c.len-count.ensures)

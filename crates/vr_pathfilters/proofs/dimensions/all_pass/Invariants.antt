@@ -10,6 +10,8 @@ use Rattle.vr_pathfilters.proofs.dimensions.all_pass.Given as goal
 abbrev pub invariant-loop-k : goal.invariant-loop-k
 invariant-loop-k g l = record {
   passed : HoldsSoFar (is_feasible_list l.at.closed.model.now l.at.d) l.at.routes.now.lists l.change l.k;
-  count : l.steps ≤ l.fn.steps + sum_by (λ p. told_after (list_weight l.at.closed.model.now l.at.d) l.at.routes.now.lists l.change p.vehicle) (take l.k l.change);
-  tries : l.tries ≤ l.fn.tries + sum_by (λ p. told_after (list_tries l.at.closed.model.now l.at.d) l.at.routes.now.lists l.change p.vehicle) (take l.k l.change);
+  count : l.steps
+      ≤ l.fn.steps + sum_by (λ p. told_after (list_weight l.at.closed.model.now l.at.d) l.at.routes.now.lists l.change p.vehicle) (take l.k l.change);
+  tries : l.tries
+      ≤ l.fn.tries + sum_by (λ p. told_after (list_tries l.at.closed.model.now l.at.d) l.at.routes.now.lists l.change p.vehicle) (take l.k l.change);
 }

@@ -16,5 +16,7 @@ returns-clause-known c = λ model d old before same are rows_are.
     let v_low : v < length known = (let h = c.requires.vehicle low in omega (arith, h, c.vehicle.ensures)) in
     let list = joined old (part_at parts k).pieces in
     let new = set known v c.swap.new.x in
-    let put = known_put model d before known new v list c.args.rows.now are v_low (omega (arith, v_low, same)) (subst (λ w. AreRowsIfUsed model d w list c.args.rows.now) (sym c.vehicle.ensures) (rows_are low)) (ap (set known v) c.swap.ensures.x_after) in
-    subst (λ l. AreKnown model d l new) (sym (with_part_is old parts k before low)) (subst (λ w. AreKnown model d (with_route before w list) new) c.vehicle.ensures put)
+    let put = known_put model d before known new v list c.args.rows.now are v_low (omega (arith, v_low, same))
+    (subst (λ w. AreRowsIfUsed model d w list c.args.rows.now) (sym c.vehicle.ensures) (rows_are low)) (ap (set known v) c.swap.ensures.x_after) in
+    subst (λ l. AreKnown model d l new) (sym (with_part_is old parts k before low))
+    (subst (λ w. AreKnown model d (with_route before w list) new) c.vehicle.ensures put)

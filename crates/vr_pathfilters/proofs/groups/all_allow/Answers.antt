@@ -11,7 +11,8 @@ returns-then-pieces_allow c parts made balance =
     let f = c.args.filter.now in
     let tours = c.args.routes.now in
     let rule = allows_pieces f.model.now f.numbers tours.lists f.balance in
-    let all = whole f.model.now f.numbers tours c.requires.stands (after tours parts) (tours_after f.model.now tours c.requires.stands.tours_are parts made) f.balance balance in
+    let all = whole f.model.now f.numbers tours c.requires.stands (after tours parts)
+    (tours_after f.model.now tours c.requires.stands.tours_are parts made) f.balance balance in
     let first = sym (c.pieces_allow.ensures ∙ ap rule c.come.ensures.value) ∙ c.if-pieces_allow.true in
     c.pieces_allow-then-pieces_allow.ensures ∙ (ap rule c.gone.ensures.value ∙ (sym (ap (λ b. b && rule f.balance.gone) first) ∙ all))
 
@@ -20,6 +21,7 @@ returns-else-pieces_allow c parts made balance =
     let f = c.args.filter.now in
     let tours = c.args.routes.now in
     let rule = allows_pieces f.model.now f.numbers tours.lists f.balance in
-    let all = whole f.model.now f.numbers tours c.requires.stands (after tours parts) (tours_after f.model.now tours c.requires.stands.tours_are parts made) f.balance balance in
+    let all = whole f.model.now f.numbers tours c.requires.stands (after tours parts)
+    (tours_after f.model.now tours c.requires.stands.tours_are parts made) f.balance balance in
     let first = sym (c.pieces_allow.ensures ∙ ap rule c.come.ensures.value) ∙ c.if-pieces_allow.false in
     c.if-pieces_allow.false ∙ (sym (ap (λ b. b && rule f.balance.gone) first) ∙ all)

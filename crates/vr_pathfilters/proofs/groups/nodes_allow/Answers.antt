@@ -10,11 +10,15 @@ returns-then-not-allows c =
     let f = c.args.filter.now in
     let p : ℕ → Bool = allows_node f.model.now f.numbers c.args.routes.now.lists f.balance in
     sym (list_all_at p c.args.nodes.now c.loop-node.node-index 0 c.loop-node-test.true
-    (sym (node-asked f.model.now f.numbers c.args.routes.now.lists f.balance (slice_index_or c.args.nodes.now c.loop-node.node-index 0) c.number-g.ensures c.many_in_pieces-come.ensures.value c.come.ensures.value c.many_in_pieces-gone.ensures.value c.gone.ensures.value c.allows.ensures) ∙ c.if-not-allows.true))
+    (sym (node-asked f.model.now f.numbers c.args.routes.now.lists f.balance (slice_index_or c.args.nodes.now c.loop-node.node-index 0) c.number-g.ensures
+    c.many_in_pieces-come.ensures.value c.come.ensures.value c.many_in_pieces-gone.ensures.value c.gone.ensures.value c.allows.ensures)
+    ∙ c.if-not-allows.true))
 
 pub loop-node-preserved : goal.loop-node-preserved
 loop-node-preserved c =
     let f = c.args.filter.now in
     let p : ℕ → Bool = allows_node f.model.now f.numbers c.args.routes.now.lists f.balance in
     list_all_more p c.args.nodes.now c.loop-node.node-index 0 c.loop-node-test.true ∙ ap₂ (λ a b. a && b) c.loop-node.invariant
-    (sym (node-asked f.model.now f.numbers c.args.routes.now.lists f.balance (slice_index_or c.args.nodes.now c.loop-node.node-index 0) c.number-g.ensures c.many_in_pieces-come.ensures.value c.come.ensures.value c.many_in_pieces-gone.ensures.value c.gone.ensures.value c.allows.ensures) ∙ c.if-not-allows.false)
+    (sym (node-asked f.model.now f.numbers c.args.routes.now.lists f.balance (slice_index_or c.args.nodes.now c.loop-node.node-index 0) c.number-g.ensures
+    c.many_in_pieces-come.ensures.value c.come.ensures.value c.many_in_pieces-gone.ensures.value c.gone.ensures.value c.allows.ensures)
+    ∙ c.if-not-allows.false)

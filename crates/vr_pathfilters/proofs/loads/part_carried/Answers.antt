@@ -22,7 +22,8 @@ can_carry-requires c =
       vehicle = part_vehicle are c.args.k c.requires.part c.vehicle.ensures;
       within = part_within are c.args.k c.requires.part c.pieces.ensures.value;
       few = c.pieces.ensures.few;
-      nodes = subst (λ l. All (λ node. node < m.nodes) (joined lists l)) (sym c.pieces.ensures.value) (visits-below m (joined lists (part_at c.args.change.now c.args.k).pieces) tour.visits);
+      nodes = subst (λ l. All (λ node. node < m.nodes) (joined lists l)) (sym c.pieces.ensures.value)
+          (visits-below m (joined lists (part_at c.args.change.now c.args.k).pieces) tour.visits);
     }
 
 pub returns : goal.returns
@@ -30,6 +31,7 @@ returns c =
     let m = c.args.model.now in
     let lists = c.args.routes.now.lists in
     let part = part_at c.args.change.now c.args.k in
-    let known : part.vehicle < length m.vehicles = (let h = part_vehicle c.requires.made.makes.parts_are c.args.k c.requires.part refl in let n = c.requires.tours.list_of_each in omega (arith, h, n)) in
+    let known : part.vehicle < length m.vehicles =
+    (let h = part_vehicle c.requires.made.makes.parts_are c.args.k c.requires.part refl in let n = c.requires.tours.list_of_each in omega (arith, h, n)) in
     c.can_carry.ensures ∙ (ap₂ (λ v l. can_carry m c.args.d v (joined lists l)) c.vehicle.ensures c.pieces.ensures.value
     ∙ sym (decide chosen_where_feasible m c.args.d part.vehicle c.requires.load known (joined lists part.pieces)))

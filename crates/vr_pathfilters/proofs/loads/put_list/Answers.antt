@@ -17,7 +17,8 @@ put-requires c =
     let tour = tour_of_part m c.args.routes.now c.requires.tours c.args.change.now c.requires.made c.args.k low in
     let new = joined lists (part_at c.args.change.now c.args.k).pieces in
     let same : c.as_slice.result.now ≡ new = c.as_slice.ensures.value ∙ c.write_after.ensures in
-    let known : c.vehicle.result < length m.vehicles = (let h = part_vehicle c.requires.made.makes.parts_are c.args.k low c.vehicle.ensures in let n = c.requires.tours.list_of_each in omega (arith, h, n)) in
+    let known : c.vehicle.result < length m.vehicles =
+    (let h = part_vehicle c.requires.made.makes.parts_are c.args.k low c.vehicle.ensures in let n = c.requires.tours.list_of_each in omega (arith, h, n)) in
     record {
       load = c.requires.load;
       vehicle = known;
@@ -34,5 +35,6 @@ returns-clause-carried c = λ lists are.
     let new = joined old (part_at c.args.change.now c.args.k).pieces in
     let same : c.as_slice.result.now ≡ new = c.as_slice.ensures.value ∙ c.write_after.ensures in
     subst (λ l. AreCarried m c.args.d l c.put.new.self)
-    (ap (with_route lists c.vehicle.result) same ∙ (ap (λ v. with_route lists v new) c.vehicle.ensures ∙ sym (with_part_is old c.args.change.now c.args.k lists low)))
+    (ap (with_route lists c.vehicle.result) same
+    ∙ (ap (λ v. with_route lists v new) c.vehicle.ensures ∙ sym (with_part_is old c.args.change.now c.args.k lists low)))
     (c.put.ensures lists are)

@@ -8,7 +8,8 @@ use Rattle.vr_pathfilters.proofs.pairs.count_all.Goals as goal
 pub count_list-requires-clause-tour : goal.count_list-requires-clause-tour
 count_list-requires-clause-tour c =
     let low : c.loop-v.v < length c.args.routes.now.lists = omega (arith, c.loop-v-test.true, c.vehicles-v-end.ensures.value) in
-    subst (IsTour c.args.node_tables.now) (sym c.list.ensures.value) (tour_of c.args.node_tables.now c.args.routes.now c.requires.tours.tours_are c.loop-v.v low)
+    subst (IsTour c.args.node_tables.now) (sym c.list.ensures.value)
+    (tour_of c.args.node_tables.now c.args.routes.now c.requires.tours.tours_are c.loop-v.v low)
 
 pub loop-v-preserved : goal.loop-v-preserved
 loop-v-preserved c =

@@ -9,8 +9,10 @@ splice-splice-requires-clause-ends c = has_ends c.args.routes.now.lists c.args.c
 pub join_into-requires : goal.join_into-requires
 join_into-requires c = record {
   within = (c.splice-splice.ensures.ends c.args.routes.now.lists c.requires.made.makes.parts_are).within;
-  room = (part_between c.requires.tours.1 c.requires.tours.2 c.requires.made c.args.k c.requires.part c.splice-splice.ensures.vehicle (c.splice-splice.ensures.ends c.args.routes.now.lists c.requires.made.makes.parts_are) refl).few;
+  room = (part_between c.requires.tours.1 c.requires.tours.2 c.requires.made c.args.k c.requires.part
+      c.splice-splice.ensures.vehicle (c.splice-splice.ensures.ends c.args.routes.now.lists c.requires.made.makes.parts_are) refl).few;
 }
 
 pub returns : goal.returns
-returns c model well_formed tours = part_between well_formed tours c.requires.made c.args.k c.requires.part c.splice-splice.ensures.vehicle (c.splice-splice.ensures.ends c.args.routes.now.lists c.requires.made.makes.parts_are) c.join_into.ensures
+returns c model well_formed tours = part_between well_formed tours c.requires.made c.args.k c.requires.part
+    c.splice-splice.ensures.vehicle (c.splice-splice.ensures.ends c.args.routes.now.lists c.requires.made.makes.parts_are) c.join_into.ensures

@@ -11,14 +11,19 @@ use Rattle.vr_plan.proofs.cumuls.settle.Goals as goal
 
 pub returns-in_default-clause-stops : goal.returns-in_default-clause-stops
 returns-in_default-clause-stops c = λ stops.
-    unfeasible_behind c.args.sound.line.now c.args.behind.now c.args.sound.sound c.requires.behind c.loop-k.k (omega arith) c.loop-k.cumuls c.loop-k.here c.loop-k.invariant.settled
-    c.get-allowed.result.now c.get-hop.result.now c.cross_uncounted.new.out c.levels.result.now c.get-allowed.ensures.value c.get-hop.ensures.value c.in_ok-cross_uncounted.ensures.exact c.in_ok-cross_uncounted.ensures.levels c.levels.ensures (c.in_default.ensures.none (search rules))
+    unfeasible_behind c.args.sound.line.now c.args.behind.now c.args.sound.sound c.requires.behind
+    c.loop-k.k (omega arith) c.loop-k.cumuls c.loop-k.here c.loop-k.invariant.settled
+    c.get-allowed.result.now c.get-hop.result.now c.cross_uncounted.new.out c.levels.result.now c.get-allowed.ensures.value c.get-hop.ensures.value
+    c.in_ok-cross_uncounted.ensures.exact c.in_ok-cross_uncounted.ensures.levels c.levels.ensures (c.in_default.ensures.none (search rules))
 
 pub keep-requires-clause-allowed : goal.keep-requires-clause-allowed
-keep-requires-clause-allowed c = subst IsCumuls (c.get-allowed.ensures.value c.get-allowed.result.now) (c.args.sound.sound.cumuls (c.loop-k.k + 1) c.get-allowed.result.now (omega (arith, c.args.sound.sound.stops)))
+keep-requires-clause-allowed c = subst IsCumuls (c.get-allowed.ensures.value c.get-allowed.result.now)
+    (c.args.sound.sound.cumuls (c.loop-k.k + 1) c.get-allowed.result.now (omega (arith, c.args.sound.sound.stops)))
 
 pub cross_uncounted-requires : goal.cross_uncounted-requires
-cross_uncounted-requires c = crossing_of c.args.sound.line.now c.args.sound.sound c.loop-k.k (c.loop-k.k + 1) (omega arith) (omega (arith, c.args.sound.sound.stops)) c.loop-k.here c.loop-k.invariant.levels c.get-hop.result.now (c.get-hop.ensures.value c.get-hop.result.now) c.get-allowed.result.now (c.get-allowed.ensures.value c.get-allowed.result.now)
+cross_uncounted-requires c = crossing_of c.args.sound.line.now c.args.sound.sound c.loop-k.k (c.loop-k.k + 1)
+    (omega arith) (omega (arith, c.args.sound.sound.stops)) c.loop-k.here c.loop-k.invariant.levels c.get-hop.result.now
+    (c.get-hop.ensures.value c.get-hop.result.now) c.get-allowed.result.now (c.get-allowed.ensures.value c.get-allowed.result.now)
 
 pub cross_uncounted-requires-in-loop-k : goal.cross_uncounted-requires-in-loop-k
 cross_uncounted-requires-in-loop-k c = record {
@@ -33,14 +38,19 @@ pub loop-k-preserved : goal.loop-k-preserved
 loop-k-preserved c =
     let x = to_z w64 (of_z w64 c.in-Some.least) in
     let least = c.in-Some.ensures.some in
-    let range = shared_range c.args.sound.line.now.breaks c.cross_uncounted.new.out c.levels.result.now c.in-Some.least c.in_ok-cross_uncounted.ensures.levels least.shared in
+    let range = shared_range c.args.sound.line.now.breaks c.cross_uncounted.new.out
+    c.levels.result.now c.in-Some.least c.in_ok-cross_uncounted.ensures.levels least.shared in
     let same : x ≡ c.in-Some.least = omega (arith, ints, range) in
     rw (c.swap.ensures.x_after, c.in_ok-push.ensures.ok) (record {
-      settled = settled_behind c.args.sound.line.now c.args.behind.now c.args.sound.sound c.requires.behind c.loop-k.k (omega arith) c.loop-k.cumuls c.loop-k.here c.loop-k.invariant.settled
-          c.get-allowed.result.now c.get-hop.result.now c.cross_uncounted.new.out c.levels.result.now c.get-allowed.ensures.value c.get-hop.ensures.value c.in_ok-cross_uncounted.ensures.exact c.in_ok-cross_uncounted.ensures.levels c.levels.ensures
-          x (subst (IsLeastSharedCumul c.cross_uncounted.new.out c.levels.result.now) (sym same) least) c.keep.new.only c.cross_uncounted-in-loop-k.new.out c.in_ok-keep.ensures.exact c.in_ok-keep.ensures.cumuls c.in_ok-cross_uncounted-2.ensures.exact (subst (IsIn (pos 0) horizon) (sym same) range);
+      settled = settled_behind c.args.sound.line.now c.args.behind.now c.args.sound.sound
+          c.requires.behind c.loop-k.k (omega arith) c.loop-k.cumuls c.loop-k.here c.loop-k.invariant.settled
+          c.get-allowed.result.now c.get-hop.result.now c.cross_uncounted.new.out c.levels.result.now c.get-allowed.ensures.value
+          c.get-hop.ensures.value c.in_ok-cross_uncounted.ensures.exact c.in_ok-cross_uncounted.ensures.levels c.levels.ensures
+          x (subst (IsLeastSharedCumul c.cross_uncounted.new.out c.levels.result.now) (sym same) least) c.keep.new.only c.cross_uncounted-in-loop-k.new.out
+          c.in_ok-keep.ensures.exact c.in_ok-keep.ensures.cumuls c.in_ok-cross_uncounted-2.ensures.exact (subst (IsIn (pos 0) horizon) (sym same) range);
       levels = c.in_ok-cross_uncounted-2.ensures.levels;
     })
 
 pub returns-clause-settled : goal.returns-clause-settled
-returns-clause-settled c = λ goes. chosen_where_settled c.args.sound.line.now c.args.sound.sound c.loop-k.cumuls c.loop-k.here c.loop-k.k (omega arith) c.loop-k.invariant.settled
+returns-clause-settled c =
+    λ goes. chosen_where_settled c.args.sound.line.now c.args.sound.sound c.loop-k.cumuls c.loop-k.here c.loop-k.k (omega arith) c.loop-k.invariant.settled

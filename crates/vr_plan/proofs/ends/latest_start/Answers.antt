@@ -15,7 +15,8 @@ pub returns-clause-some : goal.returns-clause-some
 returns-clause-some c =
     let line = c.args.sound.line.now in
     let starts = c.in_ok-starts.starts in
-    let ahead = begun lines_stand_for_theirs line c.args.sound.sound start_is_reached c.get-allowed.result.now starts c.get-allowed.ensures.value c.in_ok-starts.ensures.exact c.in_ok-starts.ensures.levels in
+    let ahead = begun lines_stand_for_theirs line c.args.sound.sound start_is_reached c.get-allowed.result.now
+    starts c.get-allowed.ensures.value c.in_ok-starts.ensures.exact c.in_ok-starts.ensures.levels in
     IfOk-weaker _ _ _ (λ start. some_weaker start (IsGreatestShared starts c.args.behind.now) (IsLatestOf line)
     (latest_start_of line c.args.sound.sound starts c.args.behind.now ahead c.requires.behind)) c.greatest_shared.ensures.some
 
@@ -23,10 +24,12 @@ pub returns-clause-none : goal.returns-clause-none
 returns-clause-none c =
     let line = c.args.sound.line.now in
     let starts = c.in_ok-starts.starts in
-    let ahead = begun lines_stand_for_theirs line c.args.sound.sound start_is_reached c.get-allowed.result.now starts c.get-allowed.ensures.value c.in_ok-starts.ensures.exact c.in_ok-starts.ensures.levels in
+    let ahead = begun lines_stand_for_theirs line c.args.sound.sound start_is_reached c.get-allowed.result.now
+    starts c.get-allowed.ensures.value c.in_ok-starts.ensures.exact c.in_ok-starts.ensures.levels in
     IfOk-weaker _ _ _ (none_meets line c.args.sound.sound 0 (omega arith) starts c.args.behind.now ahead c.requires.behind) c.greatest_shared.ensures.none
 
 pub returns-clause-range : goal.returns-clause-range
 returns-clause-range c =
     IfOk-weaker _ _ _ (λ start. some_weaker start (IsGreatestShared c.in_ok-starts.starts c.args.behind.now) (IsIn (pos 0) horizon)
-    (λ x is. shared_range c.args.sound.line.now.breaks c.in_ok-starts.starts c.args.behind.now x c.in_ok-starts.ensures.levels is.shared)) c.greatest_shared.ensures.some
+    (λ x is. shared_range c.args.sound.line.now.breaks c.in_ok-starts.starts c.args.behind.now x c.in_ok-starts.ensures.levels is.shared))
+    c.greatest_shared.ensures.some

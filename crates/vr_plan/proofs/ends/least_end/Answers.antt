@@ -15,16 +15,20 @@ pub returns-clause-some : goal.returns-clause-some
 returns-clause-some c =
     let line = c.args.sound.line.now in
     let ends = c.in_ok-ends.ends in
-    let behind = ended lines_stand_for_theirs line c.args.sound.sound end_is_reached c.len.result c.get-allowed.result.now ends c.len.ensures c.get-allowed.ensures.value c.in_ok-ends.ensures.exact c.in_ok-ends.ensures.levels in
+    let behind = ended lines_stand_for_theirs line c.args.sound.sound end_is_reached c.len.result c.get-allowed.result.now
+    ends c.len.ensures c.get-allowed.ensures.value c.in_ok-ends.ensures.exact c.in_ok-ends.ensures.levels in
     some_weaker c.least_shared.result (IsLeastSharedCumul c.args.ahead.now ends) (IsLeastEndOf line)
-    (least_end_of line c.args.sound.sound c.args.ahead.now ends c.requires.ahead (subst (λ k. IsBackwardRow line k ends) c.len.ensures behind)) c.least_shared.ensures.some
+    (least_end_of line c.args.sound.sound c.args.ahead.now ends c.requires.ahead (subst (λ k. IsBackwardRow line k ends) c.len.ensures behind))
+    c.least_shared.ensures.some
 
 pub returns-clause-none : goal.returns-clause-none
 returns-clause-none c =
     let line = c.args.sound.line.now in
     let ends = c.in_ok-ends.ends in
-    let behind = ended lines_stand_for_theirs line c.args.sound.sound end_is_reached c.len.result c.get-allowed.result.now ends c.len.ensures c.get-allowed.ensures.value c.in_ok-ends.ensures.exact c.in_ok-ends.ensures.levels in
-    none_meets line c.args.sound.sound _ (omega arith) c.args.ahead.now ends c.requires.ahead (subst (λ k. IsBackwardRow line k ends) c.len.ensures behind) c.least_shared.result c.least_shared.ensures.none
+    let behind = ended lines_stand_for_theirs line c.args.sound.sound end_is_reached c.len.result c.get-allowed.result.now
+    ends c.len.ensures c.get-allowed.ensures.value c.in_ok-ends.ensures.exact c.in_ok-ends.ensures.levels in
+    none_meets line c.args.sound.sound _ (omega arith) c.args.ahead.now ends c.requires.ahead
+    (subst (λ k. IsBackwardRow line k ends) c.len.ensures behind) c.least_shared.result c.least_shared.ensures.none
 
 pub returns-clause-range : goal.returns-clause-range
 returns-clause-range c =

@@ -17,6 +17,7 @@ loop-k-preserved c =
     let only = subst (λ x. IsOnly c.get.result.now x c.keep.new.only) same c.in_ok-keep.ensures.exact in
     rw c.in_ok-push.ensures.ok (record {
       long = length-append c.loop-k.sets _ ∙ ap (λ n. n + 1) m.long;
-      each = only_more c.args.sound.line.now.allowed c.args.cumuls.now c.loop-k.sets k c.get.result.now c.keep.new.only m.long m.each (c.get.ensures.value []) only;
+      each = only_more c.args.sound.line.now.allowed c.args.cumuls.now c.loop-k.sets
+          k c.get.result.now c.keep.new.only m.long m.each (c.get.ensures.value []) only;
       cumuls = All-push IsCumuls _ _ m.cumuls c.in_ok-keep.ensures.cumuls;
     })

@@ -13,7 +13,8 @@ returns-clause-exact c =
     let as_it_is : to_z w64 (of_z w64 c.args.x) ≡ c.args.x = omega (arith, ints, range) in
     let exact = subst (λ x. IsOnly c.get.result.now x c.keep.new.only) as_it_is c.in_ok-keep.ensures.exact in
     let only = subst (λ allowed. IsOnly allowed c.args.x c.keep.new.only) (sym (c.get.ensures.value [])) exact in
-    subst (IsPinnedOf line c.args.k c.args.x) (sym (ap (with_sets line) c.set.ensures)) (pinned_line line c.args.k c.keep.new.only c.args.x c.requires.place only)
+    subst (IsPinnedOf line c.args.k c.args.x) (sym (ap (with_sets line) c.set.ensures))
+    (pinned_line line c.args.k c.keep.new.only c.args.x c.requires.place only)
 
 pub returns-clause-sound : goal.returns-clause-sound
 returns-clause-sound c =

@@ -13,7 +13,9 @@ overflow_sub-cumuls-in-loop-k c =
     let there = c.requires.range (k + 1) (pos 0) (omega (arith, c.requires.stops)) in
     let here = c.requires.range k (pos 0) (omega (arith, c.requires.stops)) in
     let hop = c.requires.hops k no_hop (omega arith) in
-    let inner : to_z w64 (of_z w64 (to_z w64 (of_z w64 (slice_index_or c.args.cumuls.now (k + 1) (pos 0))) -ℤ to_z w64 (of_z w64 (slice_index_or c.args.cumuls.now k (pos 0))))) ≡ slice_index_or c.args.cumuls.now (k + 1) (pos 0) -ℤ slice_index_or c.args.cumuls.now k (pos 0) =
+    let inner : to_z w64
+    (of_z w64 (to_z w64 (of_z w64 (slice_index_or c.args.cumuls.now (k + 1) (pos 0))) -ℤ to_z w64 (of_z w64 (slice_index_or c.args.cumuls.now k (pos 0)))))
+    ≡ slice_index_or c.args.cumuls.now (k + 1) (pos 0) -ℤ slice_index_or c.args.cumuls.now k (pos 0) =
     omega (arith, ints, there, here) in
     omega (arith, ints, inner, there, here, hop.transit)
 
@@ -25,7 +27,9 @@ loop-k-preserved c =
     let there = c.requires.range (k + 1) (pos 0) (omega (arith, c.requires.stops)) in
     let here = c.requires.range k (pos 0) (omega (arith, c.requires.stops)) in
     let hop = c.requires.hops k no_hop (omega arith) in
-    let inner : to_z w64 (of_z w64 (to_z w64 (of_z w64 (slice_index_or c.args.cumuls.now (k + 1) (pos 0))) -ℤ to_z w64 (of_z w64 (slice_index_or c.args.cumuls.now k (pos 0))))) ≡ slice_index_or c.args.cumuls.now (k + 1) (pos 0) -ℤ slice_index_or c.args.cumuls.now k (pos 0) =
+    let inner : to_z w64
+    (of_z w64 (to_z w64 (of_z w64 (slice_index_or c.args.cumuls.now (k + 1) (pos 0))) -ℤ to_z w64 (of_z w64 (slice_index_or c.args.cumuls.now k (pos 0)))))
+    ≡ slice_index_or c.args.cumuls.now (k + 1) (pos 0) -ℤ slice_index_or c.args.cumuls.now k (pos 0) =
     omega (arith, ints, there, here) in
     let at = ap (number_at c.args.cumuls.now) next in
     rw c.in_ok-push.ensures.ok (record {

@@ -8,5 +8,6 @@ use Rattle.vr_plan.proofs.plans.slacks_left.Given as goal
 abbrev pub invariant-loop-k : goal.invariant-loop-k
 invariant-loop-k l = record {
   long : length l.slacks ≡ l.k;
-  left : (j : ℕ) → j < length l.slacks → number_at l.slacks j ≡ (number_at l.cumuls (suc j) -ℤ number_at l.cumuls j) -ℤ (slice_index_or l.hops j no_hop).transit;
+  left : (j : ℕ) → j < length l.slacks
+      → number_at l.slacks j ≡ (number_at l.cumuls (suc j) -ℤ number_at l.cumuls j) -ℤ (slice_index_or l.hops j no_hop).transit;
 }

@@ -13,9 +13,14 @@ pub returns-in_default-clause-chosen : goal.returns-in_default-clause-chosen
 returns-in_default-clause-chosen c = none_chosen c.args.sound.line.now c.args.sound.sound Tight (c.in_ok-narrow.ensures.none (search rules))
 
 pub returns-clause-chosen : goal.returns-clause-chosen
-returns-clause-chosen c = IfOk-weaker _ _ (IsChosenPlanUnder Tight c.args.sound.line.now) (λ _ chosen defined of. chosen _ (subst (λ found. IfSome found (IsTightLineOf c.args.sound.line.now)) c.in-Some.is c.in_ok-narrow.ensures.some defined of)) c.earliest.ensures.chosen
+returns-clause-chosen c = IfOk-weaker _ _ (IsChosenPlanUnder Tight c.args.sound.line.now)
+    (λ _ chosen defined of. chosen _ (subst (λ found. IfSome found (IsTightLineOf c.args.sound.line.now)) c.in-Some.is c.in_ok-narrow.ensures.some defined of))
+    c.earliest.ensures.chosen
 
 pub returns-clause-stops : goal.returns-clause-stops
 returns-clause-stops c =
-    let same = subst (λ found. IfSome found (λ narrow. length narrow.allowed ≡ length c.args.sound.line.now.allowed)) c.in-Some.is c.in_ok-narrow.ensures.stops in
-    IfOk-weaker _ _ _ (λ plan. some_weaker plan (λ (p : Plan). length p.cumuls ≡ length c.in-Some.narrow.allowed) (λ (p : Plan). length p.cumuls ≡ length c.args.sound.line.now.allowed) (λ p stops. stops ∙ same)) c.earliest.ensures.stops
+    let same = subst (λ found. IfSome found (λ narrow. length narrow.allowed ≡ length c.args.sound.line.now.allowed))
+    c.in-Some.is c.in_ok-narrow.ensures.stops in
+    IfOk-weaker _ _ _
+    (λ plan. some_weaker plan (λ (p : Plan). length p.cumuls ≡ length c.in-Some.narrow.allowed)
+    (λ (p : Plan). length p.cumuls ≡ length c.args.sound.line.now.allowed) (λ p stops. stops ∙ same)) c.earliest.ensures.stops

@@ -12,7 +12,8 @@ goes_along-requires c =
     let from = c.requires.from in
     let to = c.requires.to in
     let length = ap (λ (r : BreakRow). r.duration) c.row_at-row.ensures in
-    let is = put_is c.args.line.now.breaks c.put_row.new.breaks c.args.i c.args.first _ c.put_row.ensures (omega (arith, ints, valid, from, to)) (omega (arith, ints, valid, from, to)) (omega (arith, ints, valid.duration_in_range, length)) in
+    let is = put_is c.args.line.now.breaks c.put_row.new.breaks c.args.i c.args.first _ c.put_row.ensures
+    (omega (arith, ints, valid, from, to)) (omega (arith, ints, valid, from, to)) (omega (arith, ints, valid.duration_in_range, length)) in
     put_sound c.args.line.now c.args.i c.args.first c.put_row.new.breaks c.requires.sound c.requires.place from to is
 
 pub returns-clause-exact : goal.returns-clause-exact
@@ -21,10 +22,12 @@ returns-clause-exact c = λ defined of.
     let from = c.requires.from in
     let to = c.requires.to in
     let length = ap (λ (r : BreakRow). r.duration) c.row_at-row.ensures in
-    let is = put_is c.args.line.now.breaks c.put_row.new.breaks c.args.i c.args.first _ c.put_row.ensures (omega (arith, ints, valid, from, to)) (omega (arith, ints, valid, from, to)) (omega (arith, ints, valid.duration_in_range, length)) in
+    let is = put_is c.args.line.now.breaks c.put_row.new.breaks c.args.i c.args.first _ c.put_row.ensures
+    (omega (arith, ints, valid, from, to)) (omega (arith, ints, valid, from, to)) (omega (arith, ints, valid.duration_in_range, length)) in
     c.in_ok-can.ensures (row_pinned defined c.args.i c.args.first) (put_line defined c.args.line.now c.args.i c.args.first c.put_row.new.breaks of is)
 
 pub returns-clause-same : goal.returns-clause-same
 returns-clause-same c =
-    let back = c.put_row-2.ensures ∙ (ap₂ (λ bs r. set bs c.args.i r) c.put_row.ensures c.row_at-row.ensures ∙ put_back c.args.line.now.breaks c.args.i _ no_break c.requires.place) in
+    let back = c.put_row-2.ensures
+    ∙ (ap₂ (λ bs r. set bs c.args.i r) c.put_row.ensures c.row_at-row.ensures ∙ put_back c.args.line.now.breaks c.args.i _ no_break c.requires.place) in
     λ i. with_breaks c.args.line.now (back i)

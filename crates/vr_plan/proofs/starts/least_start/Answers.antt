@@ -12,7 +12,9 @@ loop-place-preserved c =
     record {
       same = c.in_ok-best.ensures.same ∙ m.same;
       range = subst (λ (l : Line). IfSome c.in_ok-best.best (IsStartOf (slice_index_or l.breaks c.args.i no_break))) m.same c.in_ok-best.ensures.range;
-      least = subst (λ (l : Line). IsLeastOf l c.args.cumuls.now c.args.i (to_z w64 (of_z w64 c.args.ready)) c.loop-place.place c.loop-place.best → IsLeastOf l c.args.cumuls.now c.args.i (to_z w64 (of_z w64 c.args.ready)) (c.loop-place.place + 1) c.in_ok-best.best) m.same c.in_ok-best.ensures.exact m.least;
+      least = subst (λ (l : Line). IsLeastOf l c.args.cumuls.now c.args.i (to_z w64 (of_z w64 c.args.ready)) c.loop-place.place c.loop-place.best
+          → IsLeastOf l c.args.cumuls.now c.args.i (to_z w64 (of_z w64 c.args.ready)) (c.loop-place.place + 1) c.in_ok-best.best)
+          m.same c.in_ok-best.ensures.exact m.least;
     }
 
 pub returns-clause-exact : goal.returns-clause-exact

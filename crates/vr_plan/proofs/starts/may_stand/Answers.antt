@@ -18,8 +18,10 @@ returns-then-k-hops c =
     let next = q.range (k + 1) (pos 0) (omega (arith, under, q.stops)) in
     let first : to_z w64 (of_z w64 c.args.first) ≡ c.args.first = omega (arith, ints, q.first) in
     let long : to_z w64 (of_z w64 c.args.long) ≡ c.args.long = omega (arith, ints, q.long) in
-    let from : to_z w64 (of_z w64 (slice_index_or c.args.cumuls.now c.in-Some.k (pos 0))) ≡ slice_index_or c.args.cumuls.now c.in-Some.k (pos 0) = omega (arith, ints, here) in
-    let to : to_z w64 (of_z w64 (slice_index_or c.args.cumuls.now (c.in-Some.k + 1) (pos 0))) ≡ slice_index_or c.args.cumuls.now (c.in-Some.k + 1) (pos 0) = omega (arith, ints, next) in
+    let from : to_z w64 (of_z w64 (slice_index_or c.args.cumuls.now c.in-Some.k (pos 0))) ≡ slice_index_or c.args.cumuls.now c.in-Some.k (pos 0) =
+    omega (arith, ints, here) in
+    let to : to_z w64 (of_z w64 (slice_index_or c.args.cumuls.now (c.in-Some.k + 1) (pos 0))) ≡ slice_index_or c.args.cumuls.now (c.in-Some.k + 1) (pos 0) =
+    omega (arith, ints, next) in
     subst (λ p. c.fits_arc.result ≡ may_stand hops cumuls c.args.long c.args.first p) (sym at)
     (c.fits_arc.ensures
     ∙ (λ i. int_le (first i +ℤ long i) (to i) && int_le (from i +ℤ (slice_index_or hops k no_hop).transit) (to i -ℤ long i))

@@ -11,4 +11,5 @@ write_places-requires-clause-numbers c =
     let visits = subst (λ x. All (λ row. IsTrue (is_visit model row.key)) x.nodes) (c.get.ensures.value no_dimension) is.rows_of_visits.each_key_is_visit in
     let long : length c.deref_mut.result.now ≡ model.nodes = c.deref_mut.ensures.len ∙ c.in_ok-resize.ensures.len in
     subst (λ (n : ℕ). All (λ node. node < n) c.deref.result.now) (sym long)
-    (subst (λ (keys : List ℕ). All (λ node. node < model.nodes) keys) (sym (c.deref.ensures.value ∙ c.in_ok-keys.ensures)) (keys_below model c.get.result.now.nodes visits))
+    (subst (λ (keys : List ℕ). All (λ node. node < model.nodes) keys)
+    (sym (c.deref.ensures.value ∙ c.in_ok-keys.ensures)) (keys_below model c.get.result.now.nodes visits))

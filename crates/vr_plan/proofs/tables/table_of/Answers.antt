@@ -14,5 +14,6 @@ returns c =
       is_free = free;
       is_hard = hard;
       hard = λ none. hard_costs (dimension_at c.args.closed.model.now c.args.d) (sym hard ∙ none);
-      free = λ none v list. pays_nothing_where (dimension_at c.args.closed.model.now c.args.d) v list (free_pays (dimension_at c.args.closed.model.now c.args.d) (sym free ∙ none) v list);
+      free = λ none v list. pays_nothing_where (dimension_at c.args.closed.model.now c.args.d) v
+          list (free_pays (dimension_at c.args.closed.model.now c.args.d) (sym free ∙ none) v list);
     }

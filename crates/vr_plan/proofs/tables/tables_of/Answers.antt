@@ -11,5 +11,6 @@ loop-d-preserved c =
     let P = λ (d : ℕ) (table : Table). IsTable c.args.model.now d table in
     rw c.in_ok-push.ensures.items (record {
       long = length-append c.loop-d.tables.items _ ∙ ap (λ n. n + 1) m.long;
-      each = λ d other lt. each_push P c.loop-d.tables.items c.in_ok-table_of.field-0 m.each (subst (λ n. P n c.in_ok-table_of.field-0) (sym m.long) c.in_ok-table_of.ensures) d other lt;
+      each = λ d other lt. each_push P c.loop-d.tables.items c.in_ok-table_of.field-0 m.each
+          (subst (λ n. P n c.in_ok-table_of.field-0) (sym m.long) c.in_ok-table_of.ensures) d other lt;
     })

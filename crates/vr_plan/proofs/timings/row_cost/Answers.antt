@@ -21,12 +21,17 @@ times-requires-clause-coefficient c =
     record { at_least = omega (arith, ints, a.at_least, a.at_most); at_most = omega (arith, ints, a.at_least, a.at_most) }
 
 -- how far the cumul is above the bound
-above : (c : goal.After-struct_told-2-1) → (c.max.result ≡ int_max (pos 0) (c.args.x -ℤ c.in-Some-soft.soft.bound)) × IsAround 68719476736 (int_max (pos 0) (c.args.x -ℤ c.in-Some-soft.soft.bound))
+above : (c : goal.After-struct_told-2-1)
+    → (c.max.result ≡ int_max (pos 0) (c.args.x -ℤ c.in-Some-soft.soft.bound)) × IsAround 68719476736 (int_max (pos 0) (c.args.x -ℤ c.in-Some-soft.soft.bound))
 above c =
     let x = c.requires.range in
     let b = (soft_of c).bound_in_range in
-    let y : IsAround 68719476736 (c.args.x -ℤ c.in-Some-soft.soft.bound) = record { low = omega (arith, ints, x.at_least, b.at_most); high = omega (arith, ints, x.at_most, b.at_least) } in
-    let e : to_z w64 (of_z w64 (to_z w64 (of_z w64 c.args.x) -ℤ to_z w64 (of_z w64 c.in-Some-soft.soft.bound))) ≡ c.args.x -ℤ c.in-Some-soft.soft.bound = omega (arith, ints, x.at_least, x.at_most, b.at_least, b.at_most) in
+    let y : IsAround 68719476736 (c.args.x -ℤ c.in-Some-soft.soft.bound) = record {
+      low = omega (arith, ints, x.at_least, b.at_most);
+      high = omega (arith, ints, x.at_most, b.at_least);
+    } in
+    let e : to_z w64 (of_z w64 (to_z w64 (of_z w64 c.args.x) -ℤ to_z w64 (of_z w64 c.in-Some-soft.soft.bound))) ≡ c.args.x -ℤ c.in-Some-soft.soft.bound =
+    omega (arith, ints, x.at_least, x.at_most, b.at_least, b.at_most) in
     (c.max.ensures.value ∙ ap (int_max (pos 0)) e, max-around (c.args.x -ℤ c.in-Some-soft.soft.bound) 68719476736 y)
 
 pub times-requires-clause-range : goal.times-requires-clause-range
@@ -44,8 +49,12 @@ returns-clause-value c =
     let x = c.requires.range in
     let b = soft.bound_in_range in
     let a = soft.coefficient_in_range in
-    let y : IsAround 68719476736 (c.args.x -ℤ s.bound) = record { low = omega (arith, ints, x.at_least, b.at_most); high = omega (arith, ints, x.at_most, b.at_least) } in
-    let e : to_z w64 (of_z w64 (to_z w64 (of_z w64 c.args.x) -ℤ to_z w64 (of_z w64 s.bound))) ≡ c.args.x -ℤ s.bound = omega (arith, ints, x.at_least, x.at_most, b.at_least, b.at_most) in
+    let y : IsAround 68719476736 (c.args.x -ℤ s.bound) = record {
+      low = omega (arith, ints, x.at_least, b.at_most);
+      high = omega (arith, ints, x.at_most, b.at_least);
+    } in
+    let e : to_z w64 (of_z w64 (to_z w64 (of_z w64 c.args.x) -ℤ to_z w64 (of_z w64 s.bound))) ≡ c.args.x -ℤ s.bound =
+    omega (arith, ints, x.at_least, x.at_most, b.at_least, b.at_most) in
     let v = c.max.ensures.value ∙ ap (int_max (pos 0)) e in
     let r = max-around (c.args.x -ℤ s.bound) 68719476736 y in
     let max_read : to_z w64 (of_z w64 c.max.result) ≡ int_max (pos 0) (c.args.x -ℤ s.bound) = omega (arith, ints, v, r.low, r.high) in

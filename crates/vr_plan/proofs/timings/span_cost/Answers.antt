@@ -19,7 +19,10 @@ returns-clause-value c =
     let f = c.requires.coefficients c.args.v (pos 0) c.requires.vehicle in
     let g = c.get.ensures.value (pos 0) in
     let t = c.args.timing in
-    let span : to_z w64 (of_z w64 (to_z w64 (of_z w64 t.last) -ℤ to_z w64 (of_z w64 t.start))) ≡ t.last -ℤ t.start = omega (arith, ints, a.at_least, a.at_most, b.at_least, b.at_most) in
-    let coefficient : to_z w64 (of_z w64 c.get.result.now) ≡ number_at c.args.dimension.now.span_costs c.args.v = omega (arith, ints, f.at_least, f.at_most, g) in
+    let span : to_z w64 (of_z w64 (to_z w64 (of_z w64 t.last) -ℤ to_z w64 (of_z w64 t.start))) ≡ t.last -ℤ t.start =
+    omega (arith, ints, a.at_least, a.at_most, b.at_least, b.at_most) in
+    let coefficient : to_z w64 (of_z w64 c.get.result.now) ≡ number_at c.args.dimension.now.span_costs c.args.v =
+    omega (arith, ints, f.at_least, f.at_most, g) in
     read-around c.times.result cumul_cost c.times.ensures.range (omega arith) ∙ c.times.ensures.value
-    ∙ ap (λ z. z *ℤ to_z w64 (of_z w64 (to_z w64 (of_z w64 t.last) -ℤ to_z w64 (of_z w64 t.start)))) coefficient ∙ ap (λ z. number_at c.args.dimension.now.span_costs c.args.v *ℤ z) span
+    ∙ ap (λ z. z *ℤ to_z w64 (of_z w64 (to_z w64 (of_z w64 t.last) -ℤ to_z w64 (of_z w64 t.start)))) coefficient
+    ∙ ap (λ z. number_at c.args.dimension.now.span_costs c.args.v *ℤ z) span

@@ -23,10 +23,12 @@ soft_cost-requires-clause-ends c =
     subst (λ x. All IsStopRow x.ends) (c.get-dimension.ensures.value no_dimension) is.rows_of_ends.each_row
 
 pub soft_cost-requires-clause-places : goal.soft_cost-requires-clause-places
-soft_cost-requires-clause-places c = places_here c.args.closed.model.now c.args.d c.args.table.now c.requires.table c.deref.result.now c.deref.ensures.value c.get-dimension.result.now (c.get-dimension.ensures.value no_dimension)
+soft_cost-requires-clause-places c = places_here c.args.closed.model.now c.args.d c.args.table.now c.requires.table
+    c.deref.result.now c.deref.ensures.value c.get-dimension.result.now (c.get-dimension.ensures.value no_dimension)
 
 pub soft_cost-requires-clause-list : goal.soft_cost-requires-clause-list
-soft_cost-requires-clause-list c = nodes_here c.args.closed.model.now c.args.d c.args.table.now c.requires.table c.deref.result.now c.deref.ensures.value c.args.list.now c.requires.visits
+soft_cost-requires-clause-list c =
+    nodes_here c.args.closed.model.now c.args.d c.args.table.now c.requires.table c.deref.result.now c.deref.ensures.value c.args.list.now c.requires.visits
 
 pub returns-clause-soft : goal.returns-clause-soft
 returns-clause-soft c =

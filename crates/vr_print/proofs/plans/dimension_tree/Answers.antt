@@ -14,7 +14,8 @@ use Rattle.vr_print.proofs.plans.dimension_tree.Goals as goal
 
 pub chosen_plan-requires-clause-visits : goal.chosen_plan-requires-clause-visits
 chosen_plan-requires-clause-visits c =
-    ap (list_all (is_visit c.args.of.now.closed.model.now)) c.list.ensures.value ∙ route-visits c.args.of.now.closed.model.now c.args.of.now.routes.now.lists c.args.of.now.v c.args.of.now.lists
+    ap (list_all (is_visit c.args.of.now.closed.model.now)) c.list.ensures.value
+    ∙ route-visits c.args.of.now.closed.model.now c.args.of.now.routes.now.lists c.args.of.now.v c.args.of.now.lists
 
 pub chosen_plan-requires-clause-distinct : goal.chosen_plan-requires-clause-distinct
 chosen_plan-requires-clause-distinct c =

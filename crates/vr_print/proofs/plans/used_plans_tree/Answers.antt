@@ -7,5 +7,6 @@ use Rattle.vr_print.proofs.plans.used_plans_tree.Goals as goal
 
 pub loop-d-preserved : goal.loop-d-preserved
 loop-d-preserved c =
-    let more = map-below_more (dimension_tree c.args.of.now.closed.model.now (assigned c.args.of.now.closed.model.now c.args.of.now.routes.now.lists) c.args.of.now.v) c.loop-d.d in
+    let more = map-below_more
+    (dimension_tree c.args.of.now.closed.model.now (assigned c.args.of.now.closed.model.now c.args.of.now.routes.now.lists) c.args.of.now.v) c.loop-d.d in
     grind (arith, common_steps)

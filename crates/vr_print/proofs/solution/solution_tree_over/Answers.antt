@@ -22,9 +22,11 @@ returns c =
     let model = c.args.lookups.now.closed.model.now in
     let lists = c.args.routes.now.lists in
     let fits : FitsSigned w64 c.args.first_cost = search rules in
-    let same = ap (λ (first_cost : ℤ). tree_of c.in_ok-parts.parts c.deref.result.now (view c.in_ok-trees.trees) first_cost c.args.report) (to_z-of_z w64 c.args.first_cost fits)
+    let same = ap (λ (first_cost : ℤ). tree_of c.in_ok-parts.parts c.deref.result.now (view c.in_ok-trees.trees) first_cost c.args.report)
+    (to_z-of_z w64 c.args.first_cost fits)
     ∙ ap (λ parts. tree_of parts c.deref.result.now (view c.in_ok-trees.trees) c.args.first_cost c.args.report) c.in_ok-parts.ensures.parts
-    ∙ ap (λ dropped. tree_of (parts_at model (assigned model lists)) dropped (view c.in_ok-trees.trees) c.args.first_cost c.args.report) (c.deref.ensures.value ∙ c.in_ok-dropped.ensures)
+    ∙ ap (λ dropped. tree_of (parts_at model (assigned model lists)) dropped (view c.in_ok-trees.trees) c.args.first_cost c.args.report)
+    (c.deref.ensures.value ∙ c.in_ok-dropped.ensures)
     ∙ ap (λ routes. tree_of (parts_at model (assigned model lists)) (inactive model lists) routes c.args.first_cost c.args.report) c.in_ok-trees.ensures in
     let p = subst IsPrintable (sym same) (assignment-printable model (assigned model lists) c.args.first_cost c.args.report) in
     record {

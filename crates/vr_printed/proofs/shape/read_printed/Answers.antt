@@ -8,4 +8,5 @@ returns-in-Ok c = c.shaped.ensures ∙ ap (where_shaped c.args.model.now) (sym c
 
 pub returns-in-Err-Refused : goal.returns-in-Err-Refused
 unfolding printed_in
-returns-in-Err-Refused c = ap (where_shaped c.args.model.now) (sym (c.in-Err-Refused.ensures.refused c.in-Err-Refused.field-0-0 (ap Err c.in-Err-Refused.field-0-is)))
+returns-in-Err-Refused c =
+    ap (where_shaped c.args.model.now) (sym (c.in-Err-Refused.ensures.refused c.in-Err-Refused.field-0-0 (ap Err c.in-Err-Refused.field-0-is)))

@@ -45,10 +45,14 @@ loop-k-preserved c =
     let slack = cumul_read line.slack line.slack_range in
     let more = c.push-in-loop-k.ensures.items ∙ ap (λ x. old ++ x ∷ []) is in
     record {
-      early = subst (AreEarly (line_of of) (k + 1)) (sym more) (step_list of.closed.model.now of.d of.v of.list.now k old low i.early c.stop_ahead-ahead.result.allowed ahead.allowed
-          c.loop-k.origin c.stop_ahead-ahead.result.node i.origin ahead.node (to_z w64 c.loop-k.cumul-bits) (to_z w64 (of_z w64 c.transit-transit.result)) (to_z w64 (of_z w64 line.slack)) next i.cumul (way ∙ t.value) (slack ∙ line.slack_is) c.in-Some.ensures.exact);
-      found = subst (AreFoundInTurn (line_of of) (k + 1)) (sym more) (found_next of.closed.model.now of.d of.v of.list.now k old low i.found c.stop_ahead-ahead.result.allowed ahead.allowed
-          c.loop-k.origin c.stop_ahead-ahead.result.node i.origin ahead.node (to_z w64 c.loop-k.cumul-bits) (to_z w64 (of_z w64 c.transit-transit.result)) (to_z w64 (of_z w64 line.slack)) i.cumul (way ∙ t.value) (slack ∙ line.slack_is) next c.in-Some.ensures.exact);
+      early = subst (AreEarly (line_of of) (k + 1)) (sym more)
+          (step_list of.closed.model.now of.d of.v of.list.now k old low i.early c.stop_ahead-ahead.result.allowed ahead.allowed
+          c.loop-k.origin c.stop_ahead-ahead.result.node i.origin ahead.node (to_z w64 c.loop-k.cumul-bits) (to_z w64 (of_z w64 c.transit-transit.result))
+          (to_z w64 (of_z w64 line.slack)) next i.cumul (way ∙ t.value) (slack ∙ line.slack_is) c.in-Some.ensures.exact);
+      found = subst (AreFoundInTurn (line_of of) (k + 1)) (sym more)
+          (found_next of.closed.model.now of.d of.v of.list.now k old low i.found c.stop_ahead-ahead.result.allowed ahead.allowed
+          c.loop-k.origin c.stop_ahead-ahead.result.node i.origin ahead.node (to_z w64 c.loop-k.cumul-bits) (to_z w64 (of_z w64 c.transit-transit.result))
+          (to_z w64 (of_z w64 line.slack)) i.cumul (way ∙ t.value) (slack ∙ line.slack_is) next c.in-Some.ensures.exact);
       cumul = is ∙ sym (ap (λ xs. number_at xs (k + 1)) more ∙ at_new old next (k + 1) (let n = i.early.many in omega (arith, n)));
       range = subst (IsIn (pos 0) horizon) (sym is) range;
       origin = ahead.node;
@@ -67,10 +71,12 @@ returns-in-None-clause-found c =
     let greatest = c.transit-transit.ensures.greatest in
     let way : to_z w64 (of_z w64 c.transit-transit.result) ≡ c.transit-transit.result = omega (arith, ints, least, greatest) in
     let slack = cumul_read line.slack line.slack_range in
-    let none : has_cumul_behind (to_z w64 c.loop-k.cumul-bits) (to_z w64 (of_z w64 c.transit-transit.result)) (to_z w64 (of_z w64 line.slack)) c.stop_ahead-ahead.result.allowed ≡ false = sym c.earliest_behind.ensures.known ∙ ap is_some c.in-None.is in (
+    let none : has_cumul_behind (to_z w64 c.loop-k.cumul-bits) (to_z w64 (of_z w64 c.transit-transit.result)) (to_z w64 (of_z w64 line.slack))
+    c.stop_ahead-ahead.result.allowed ≡ false = sym c.earliest_behind.ensures.known ∙ ap is_some c.in-None.is in (
       λ t. absurd (false≢true t),
       λ m. absurd (found_none of.closed.model.now of.d of.v of.list.now k c.loop-k.cumuls.items low i.found c.stop_ahead-ahead.result.allowed ahead.allowed
-          c.loop-k.origin c.stop_ahead-ahead.result.node i.origin ahead.node (to_z w64 c.loop-k.cumul-bits) (to_z w64 (of_z w64 c.transit-transit.result)) (to_z w64 (of_z w64 line.slack)) i.cumul (way ∙ c.transit-transit.ensures.value) (slack ∙ line.slack_is) none m.0 m.1),
+          c.loop-k.origin c.stop_ahead-ahead.result.node i.origin ahead.node (to_z w64 c.loop-k.cumul-bits) (to_z w64 (of_z w64 c.transit-transit.result))
+          (to_z w64 (of_z w64 line.slack)) i.cumul (way ∙ c.transit-transit.ensures.value) (slack ∙ line.slack_is) none m.0 m.1),
     )
 
 pub returns-in-None-clause-early : goal.returns-in-None-clause-early
@@ -79,11 +85,13 @@ returns-in-None-clause-early c none = absurd (false≢true none)
 pub returns-clause-found : goal.returns-clause-found
 returns-clause-found c =
     let of = c.args.line.now.of in
-    let at : c.loop-k.k ≡ suc (length of.list.now) = (let done = c.loop-k-test.false in let end = c.loop-k.auto.k-end in omega (arith, done, end, c.len-n.ensures.value)) in
+    let at : c.loop-k.k ≡ suc (length of.list.now) =
+    (let done = c.loop-k-test.false in let end = c.loop-k.auto.k-end in omega (arith, done, end, c.len-n.ensures.value)) in
     (λ _. (c.loop-k.cumuls.items, subst (λ k. AreFoundInTurn (line_of of) k c.loop-k.cumuls.items) at c.loop-k.invariant.found), λ _. refl)
 
 pub returns-clause-early : goal.returns-clause-early
 returns-clause-early c _ =
     let of = c.args.line.now.of in
-    let at : c.loop-k.k ≡ length of.list.now + 1 = (let done = c.loop-k-test.false in let end = c.loop-k.auto.k-end in omega (arith, done, end, c.len-n.ensures.value)) in
+    let at : c.loop-k.k ≡ length of.list.now + 1 =
+    (let done = c.loop-k-test.false in let end = c.loop-k.auto.k-end in omega (arith, done, end, c.len-n.ensures.value)) in
     subst (λ k. AreEarly (line_of of) k c.loop-k.cumuls.items) at c.loop-k.invariant.early

@@ -15,13 +15,15 @@ sum c =
     let greatest = c.requires.greatest in
     let first = as_is c.args.cumul (let l = range.at_least in omega (arith, ints, l)) (let h = range.at_most in omega (arith, ints, h)) in
     let way = as_is c.args.transit (omega (arith, ints, least)) (omega (arith, ints, greatest)) in
-    ap₂ (λ a b. to_z w64 (of_z w64 (a +ℤ b))) first way ∙ as_is (c.args.cumul +ℤ c.args.transit) (let l = range.at_least in omega (arith, ints, l, least)) (let h = range.at_most in omega (arith, ints, h, greatest))
+    ap₂ (λ a b. to_z w64 (of_z w64 (a +ℤ b))) first way ∙ as_is (c.args.cumul +ℤ c.args.transit)
+    (let l = range.at_least in omega (arith, ints, l, least)) (let h = range.at_most in omega (arith, ints, h, greatest))
 
 -- the cumul
 value : (c : After-max-next) → c.max-next.result ≡ int_max (c.args.cumul +ℤ c.args.transit) c.args.allowed.lo
 value c =
     let lo = c.requires.allowed.lo in
-    c.max-next.ensures.value ∙ ap₂ int_max (sum c) (as_is c.args.allowed.lo (let l = lo.at_least in omega (arith, ints, l)) (let h = lo.at_most in omega (arith, ints, h)))
+    c.max-next.ensures.value
+    ∙ ap₂ int_max (sum c) (as_is c.args.allowed.lo (let l = lo.at_least in omega (arith, ints, l)) (let h = lo.at_most in omega (arith, ints, h)))
 
 -- it is read as it is
 read : (c : After-max-next) → to_z w64 (of_z w64 c.max-next.result) ≡ c.max-next.result
@@ -48,7 +50,23 @@ returns-then-next-reached-clause-known c =
     let way = sum at in
     let is = value at in
     let lo = c.requires.allowed.lo in
-    let far : c.args.slack <ℤ (c.max-next.result -ℤ (c.args.cumul +ℤ c.args.transit)) = omega (arith, ints, clamps, same, way, is, c.if-next-reached.true, c.requires.slack.at_least, c.requires.slack.at_most, c.requires.cumul.at_least, c.requires.cumul.at_most, c.requires.least, c.requires.greatest, lo.at_least, lo.at_most) in
+    let far : c.args.slack <ℤ (c.max-next.result -ℤ (c.args.cumul +ℤ c.args.transit)) = omega (
+      arith,
+      ints,
+      clamps,
+      same,
+      way,
+      is,
+      c.if-next-reached.true,
+      c.requires.slack.at_least,
+      c.requires.slack.at_most,
+      c.requires.cumul.at_least,
+      c.requires.cumul.at_most,
+      c.requires.least,
+      c.requires.greatest,
+      lo.at_least,
+      lo.at_most,
+    ) in
     sym (too_great c.args.cumul c.args.transit c.args.slack c.args.allowed c.max-next.result is far)
 
 -- the cumul is within what is allowed, and the slack too
@@ -63,7 +81,23 @@ near c =
     let lo = c.requires.allowed.lo in
     let hi = c.requires.allowed.hi in (
       omega (arith, ints, same, c.if-next-allowed.false, hi.at_least, hi.at_most),
-      omega (arith, ints, clamps, same, way, is, c.if-next-reached.false, slack.at_least, slack.at_most, cumul.at_least, cumul.at_most, c.requires.least, c.requires.greatest, lo.at_least, lo.at_most),
+      omega (
+        arith,
+        ints,
+        clamps,
+        same,
+        way,
+        is,
+        c.if-next-reached.false,
+        slack.at_least,
+        slack.at_most,
+        cumul.at_least,
+        cumul.at_most,
+        c.requires.least,
+        c.requires.greatest,
+        lo.at_least,
+        lo.at_most,
+      ),
     )
 
 pub returns-clause-exact : goal.returns-clause-exact

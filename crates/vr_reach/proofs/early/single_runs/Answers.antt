@@ -38,7 +38,8 @@ returns-clause-known c =
     let ends = ends_for c.requires c.index-ends.ensures in
     all_four (no_breaks s) (one_at_start s) (one_at_end s) (one_at_visits s)
     (sym c.if-not-has_no_breaks.false ∙ c.has_no_breaks.ensures ∙ ap is_empty ends.sets.breaks_are.same)
-    (c.in_ok-start.ensures.known ∙ one_counted runs_are_counted (allowed_by s.closed.model.now s.d s.v Start) c.index-ends.result.now.start_set ends.sets.start_set_is)
+    (c.in_ok-start.ensures.known
+    ∙ one_counted runs_are_counted (allowed_by s.closed.model.now s.d s.v Start) c.index-ends.result.now.start_set ends.sets.start_set_is)
     (c.in_ok-finish.ensures.known s.d ends.sets) c.in_ok-visits.ensures.known
 
 pub returns-then-not-has_no_breaks-clause-known : goal.returns-then-not-has_no_breaks-clause-known
@@ -53,7 +54,8 @@ returns-in_err-start-clause-known c =
     let s = c.args.stops.now in
     let ends = ends_for c.requires c.index-ends.ensures in
     ap is_some c.from_residual.ensures ∙ second_fails (no_breaks s) (one_at_start s) (one_at_end s) (one_at_visits s)
-    (c.in_err-start.ensures.known ∙ one_counted runs_are_counted (allowed_by s.closed.model.now s.d s.v Start) c.index-ends.result.now.start_set ends.sets.start_set_is)
+    (c.in_err-start.ensures.known
+    ∙ one_counted runs_are_counted (allowed_by s.closed.model.now s.d s.v Start) c.index-ends.result.now.start_set ends.sets.start_set_is)
 
 pub returns-in_err-finish-clause-known : goal.returns-in_err-finish-clause-known
 returns-in_err-finish-clause-known c =

@@ -33,20 +33,24 @@ invariant_of-line c =
     }
 
 -- the cumuls are those of the list
-early : (c : goal.After-drive) → IsTrue c.drive.result → AreEarly (line_for c.args.stops.now c.args.list.now) (length c.args.list.now + 1) c.drive.new.cumuls.items
+early : (c : goal.After-drive) → IsTrue c.drive.result
+    → AreEarly (line_for c.args.stops.now c.args.list.now) (length c.args.list.now + 1) c.drive.new.cumuls.items
 early c found = subst (λ l. AreEarly (line_for c.args.stops.now l) (length l + 1) c.drive.new.cumuls.items) c.whole-whole.ensures (c.drive.ensures.early found)
 
 pub drive-requires-clause-few : goal.drive-requires-clause-few
 drive-requires-clause-few c = let same = ap length c.whole-whole.ensures in omega (arith, c.requires.few, same)
 
 pub returns-else-runs-clause-chosen : goal.returns-else-runs-clause-chosen
-returns-else-runs-clause-chosen c found = chosen_list c.args.stops.now.closed.model.now c.args.stops.now.d c.args.stops.now.v c.args.list.now c.drive.new.cumuls.items (early c found) chosen_is_least c.in-Some.ensures.no_breaks
+returns-else-runs-clause-chosen c found = chosen_list c.args.stops.now.closed.model.now c.args.stops.now.d
+    c.args.stops.now.v c.args.list.now c.drive.new.cumuls.items (early c found) chosen_is_least c.in-Some.ensures.no_breaks
 
 pub returns-else-runs-clause-stops : goal.returns-else-runs-clause-stops
-returns-else-runs-clause-stops c found = as_many_stops c.args.stops.now.closed.model.now c.args.stops.now.d c.args.stops.now.v c.args.list.now c.drive.new.cumuls.items (early c found)
+returns-else-runs-clause-stops c found =
+    as_many_stops c.args.stops.now.closed.model.now c.args.stops.now.d c.args.stops.now.v c.args.list.now c.drive.new.cumuls.items (early c found)
 
 pub returns-else-runs-clause-range : goal.returns-else-runs-clause-range
-returns-else-runs-clause-range c found = in_range c.args.stops.now.closed.model.now c.args.stops.now.d c.args.stops.now.v c.args.list.now c.drive.new.cumuls.items (early c found)
+returns-else-runs-clause-range c found =
+    in_range c.args.stops.now.closed.model.now c.args.stops.now.d c.args.stops.now.v c.args.list.now c.drive.new.cumuls.items (early c found)
 
 pub returns-then-runs-clause-found : goal.returns-then-runs-clause-found
 returns-then-runs-clause-found c =
@@ -54,14 +58,21 @@ returns-then-runs-clause-found c =
     let start = c.in-Some.ensures.start in
     let lo = start.ends.lo in
     let hi = start.ends.hi in
-    let empty : runs.start.hi <ℤ runs.start.lo = omega (arith, ints, c.if-runs.true, lo.at_least, lo.at_most, hi.at_least, hi.at_most) in
-    (λ t. absurd (false≢true t), λ m. absurd (none_begun_list c.args.stops.now.closed.model.now c.args.stops.now.d c.args.stops.now.v c.args.list.now runs.start start empty (suc (length c.args.list.now)) m.cumuls m.found))
+    let empty : runs.start.hi <ℤ runs.start.lo = omega (arith, ints, c.if-runs.true, lo.at_least, lo.at_most, hi.at_least, hi.at_most) in (
+      λ t. absurd (false≢true t),
+      λ m.
+          absurd (none_begun_list c.args.stops.now.closed.model.now c.args.stops.now.d c.args.stops.now.v
+          c.args.list.now runs.start start empty (suc (length c.args.list.now)) m.cumuls m.found),
+    )
 
 pub returns-else-runs-clause-found : goal.returns-else-runs-clause-found
 returns-else-runs-clause-found c =
     let same = c.whole-whole.ensures in
-    let by : List ℕ → List ℤ → Type 0 = λ l. AreFoundInTurn (line_for c.args.stops.now l) (suc (length l)) in
-    (λ t. let found = c.drive.ensures.found.0 t in record { runs = sym c.in-Some.ensures.known; cumuls = found.0; found = subst (λ l. by l found.0) same found.1 }, λ m. c.drive.ensures.found.1 (m.cumuls, subst (λ l. by l m.cumuls) (sym same) m.found))
+    let by : List ℕ → List ℤ → Type 0 = λ l. AreFoundInTurn (line_for c.args.stops.now l) (suc (length l)) in (
+      λ t. let found = c.drive.ensures.found.0 t in
+          record { runs = sym c.in-Some.ensures.known; cumuls = found.0; found = subst (λ l. by l found.0) same found.1 },
+      λ m. c.drive.ensures.found.1 (m.cumuls, subst (λ l. by l m.cumuls) (sym same) m.found),
+    )
 
 pub returns-in-None-clause-found : goal.returns-in-None-clause-found
 returns-in-None-clause-found c = (λ t. absurd (false≢true t), λ m. absurd (false≢true (sym (ap is_some c.in-None.is) ∙ c.single_runs.ensures.known ∙ m.runs)))

@@ -19,7 +19,9 @@ loop-k-preserved c =
     let n = arcs_of_line of.closed.model.now of.d of.v of.list.now in
     let many = length-map arcs f in
     record {
-      exact = rw c.in_ok-push.ensures.ok (push_taken (hops_along of.closed.model.now of.d of.v of.list.now) c.loop-k.hops k c.hop_from.result c.hop_from.result (omega (arith, n, many, c.loop-k-test.true, c.len-n.ensures.value)) c.loop-k.invariant.exact
+      exact = rw c.in_ok-push.ensures.ok
+          (push_taken (hops_along of.closed.model.now of.d of.v of.list.now) c.loop-k.hops k c.hop_from.result
+          c.hop_from.result (omega (arith, n, many, c.loop-k-test.true, c.len-n.ensures.value)) c.loop-k.invariant.exact
           (c.hop_from.ensures.exact ∙ sym (read_map f arcs k no_arc c.hop_from.result (omega (arith, n, c.loop-k-test.true, c.len-n.ensures.value)))));
       sound = rw c.in_ok-push.ensures.ok (All-push IsSoundHop _ _ c.loop-k.invariant.sound c.hop_from.ensures.sound);
     }

@@ -22,7 +22,8 @@ asked_of-asked-requires-clause-used c = subst (IsUsed c.args.stops.now.closed.mo
 
 pub returns-clause-exact : goal.returns-clause-exact
 returns-clause-exact c = record {
-  allowed = so_asked c.whole-whole.ensures c.asked_of-asked.ensures (λ m d v l. AllZip HasNumbers (line m d v l).allowed c.write_sets.new.sets) c.in_ok-write_sets.ensures.exact;
+  allowed = so_asked c.whole-whole.ensures c.asked_of-asked.ensures
+      (λ m d v l. AllZip HasNumbers (line m d v l).allowed c.write_sets.new.sets) c.in_ok-write_sets.ensures.exact;
   hops = so_asked c.whole-whole.ensures c.asked_of-asked.ensures (λ m d v l. c.write_hops.new.hops ≡ hops_along m d v l) c.in_ok-write_hops.ensures.exact;
   breaks = c.of-out.ensures.exact ∙ ap (λ dimension. breaks_of dimension c.args.stops.now.v) (sym (c.get.ensures.value no_dimension));
 }
@@ -31,7 +32,9 @@ pub returns-clause-sound : goal.returns-clause-sound
 returns-clause-sound c =
     let m = c.args.stops.now.closed.model.now in
     let list = c.args.list.now in
-    let sound = lines_are_sound m c.args.stops.now.closed.well_formed c.args.stops.now.d c.args.stops.now.v c.requires.stops.dimension c.requires.stops.vehicle list c.requires.used.some c.requires.used.tour.visits c.requires.used.tour.distinct in
+    let sound = lines_are_sound m c.args.stops.now.closed.well_formed c.args.stops.now.d c.args.stops.now.v c.requires.stops.dimension
+    c.requires.stops.vehicle list c.requires.used.some c.requires.used.tour.visits c.requires.used.tour.distinct in
     let n = stops_of_line m c.args.stops.now.d c.args.stops.now.v list in
     let some = some_node list c.requires.used.some in
-    sound_line _ _ (returns-clause-exact c) sound (omega (arith, n, some)) c.in_ok-write_sets.ensures.cumuls c.in_ok-write_hops.ensures.sound c.of-out.ensures.few c.of-out.ensures.valid
+    sound_line _ _ (returns-clause-exact c) sound (omega (arith, n, some)) c.in_ok-write_sets.ensures.cumuls
+    c.in_ok-write_hops.ensures.sound c.of-out.ensures.few c.of-out.ensures.valid

@@ -19,7 +19,8 @@ loop-k-preserved c =
     let same = subst (λ r. IfOk r (λ set. set ≡ c.set_at.result.now)) c.in-Ok.is c.copy.ensures in
     record {
       exact = rw (c.in_ok-push.ensures.ok, take_more allowed k (λ _. false) (omega (arith, n, c.loop-k-test.true, c.len-n.ensures.value)))
-          (all_zip_push HasNumbers (take k allowed) c.loop-k.sets (get_or allowed k (λ _. false)) c.in-Ok.set c.loop-k.invariant.exact (subst (HasNumbers (get_or allowed k (λ _. false))) (sym same) here.exact));
+          (all_zip_push HasNumbers (take k allowed) c.loop-k.sets (get_or allowed k (λ _. false)) c.in-Ok.set
+          c.loop-k.invariant.exact (subst (HasNumbers (get_or allowed k (λ _. false))) (sym same) here.exact));
       cumuls = rw c.in_ok-push.ensures.ok (All-push IsCumuls _ _ c.loop-k.invariant.cumuls (subst IsCumuls (sym same) here.cumuls));
     }
 
@@ -27,4 +28,5 @@ pub returns-clause-exact : goal.returns-clause-exact
 returns-clause-exact c =
     let of = c.args.stops.now.of in
     let n = stops_of_line of.closed.model.now of.d of.v of.list.now in
-    subst (λ xs. AllZip HasNumbers xs c.loop-k.sets) (take_all c.loop-k.k (line_of of).allowed (omega (arith, n, c.len-n.ensures.value))) c.loop-k.invariant.exact
+    subst (λ xs. AllZip HasNumbers xs c.loop-k.sets)
+    (take_all c.loop-k.k (line_of of).allowed (omega (arith, n, c.len-n.ensures.value))) c.loop-k.invariant.exact

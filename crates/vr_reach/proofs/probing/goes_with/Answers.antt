@@ -17,17 +17,23 @@ pub returns-clause-goes : goal.returns-clause-goes
 returns-clause-goes g c = λ goes.
     let L = line_along c.args.walk.now in
     let run = c.carry_run-run.result in
-    let shared = subst (ShareANumber (run ∷ [])) (sym (level_is c.args.walk.now.to.now c.args.taken c.level.result.now c.level.ensures)) (c.shares_with.ensures.0 goes) in
+    let shared = subst (ShareANumber (run ∷ []))
+    (sym (level_is c.args.walk.now.to.now c.args.taken c.level.result.now c.level.ensures)) (c.shares_with.ensures.0 goes) in
     accepted feasible_where_levels_meet L (sound_of c.args.walk.now.line.of)
-    c.args.walk.now.last (walk_within c.args.walk.now) c.args.walk.now.to.now (walk_to c.args.walk.now) c.args.taken c.requires run (c.carry_run-run.ensures.reached c.args.taken c.requires c.in-Some.ensures.run) shared
+    c.args.walk.now.last (walk_within c.args.walk.now) c.args.walk.now.to.now (walk_to c.args.walk.now) c.args.taken
+    c.requires run (c.carry_run-run.ensures.reached c.args.taken c.requires c.in-Some.ensures.run) shared
 
 pub returns-in_default-clause-exact : goal.returns-in_default-clause-exact
-returns-in_default-clause-exact g c = (λ t. absurd (false≢true t), λ goes. absurd (false≢true (sym (ap is_some c.in_default.is) ∙ c.run_at.ensures.known ∙ goes.one)))
+returns-in_default-clause-exact g c =
+    (λ t. absurd (false≢true t), λ goes. absurd (false≢true (sym (ap is_some c.in_default.is) ∙ c.run_at.ensures.known ∙ goes.one)))
 
 pub returns-clause-exact : goal.returns-clause-exact
 returns-clause-exact g c =
     let L = line_along c.args.walk.now in
     let run = c.carry_run-run.result in
     let there = level_is c.args.walk.now.to.now c.args.taken c.level.result.now c.level.ensures in
-    let all = alone_where L c.args.walk.now.from.now c.args.walk.now.to.now c.args.walk.now.begin c.args.walk.now.last c.args.taken c.in-Some.begun run (sym c.in-Some.ensures.known) c.in-Some.ensures.run c.carry_run-run.ensures.led in
-    (λ t. all.0 (subst (ShareANumber (run ∷ [])) (sym there) (c.shares_with.ensures.0 t)), λ goes. c.shares_with.ensures.1 (subst (ShareANumber (run ∷ [])) there (all.1 goes)))
+    let all = alone_where L c.args.walk.now.from.now c.args.walk.now.to.now c.args.walk.now.begin c.args.walk.now.last
+    c.args.taken c.in-Some.begun run (sym c.in-Some.ensures.known) c.in-Some.ensures.run c.carry_run-run.ensures.led in (
+      λ t. all.0 (subst (ShareANumber (run ∷ [])) (sym there) (c.shares_with.ensures.0 t)),
+      λ goes. c.shares_with.ensures.1 (subst (ShareANumber (run ∷ [])) there (all.1 goes)),
+    )

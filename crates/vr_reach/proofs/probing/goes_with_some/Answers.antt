@@ -26,10 +26,13 @@ loop-taken-preserved g c =
         | inl before ↦ c.loop-taken.invariant.none i low before goes
         | inr past ↦ (
             let here : i ≡ k = omega (arith, less, past) in
-            false≢true (sym c.if-goes_with.false ∙ c.goes_with.ensures.exact.1 (subst (GoesAlone (line_along c.args.walk.now) c.args.walk.now.from.now c.args.walk.now.to.now c.args.walk.now.begin c.args.walk.now.last) here goes))
+            false≢true (sym c.if-goes_with.false ∙ c.goes_with.ensures.exact.1
+            (subst (GoesAlone (line_along c.args.walk.now) c.args.walk.now.from.now c.args.walk.now.to.now c.args.walk.now.begin c.args.walk.now.last)
+            here goes))
             )
       ];
-      count = subst (λ i. c.goes_with.new.tries ≤ c.args.tries.now + i * n) (sym next) (try_more b k n c.args.tries.now c.loop-taken.invariant.some c.loop-taken.invariant.count c.goes_with.ensures.count);
+      count = subst (λ i. c.goes_with.new.tries ≤ c.args.tries.now + i * n) (sym next)
+          (try_more b k n c.args.tries.now c.loop-taken.invariant.some c.loop-taken.invariant.count c.goes_with.ensures.count);
     }
 
 pub returns-clause-count : goal.returns-clause-count

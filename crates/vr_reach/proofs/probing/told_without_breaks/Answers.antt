@@ -29,19 +29,23 @@ returns-then-not-shares_with-clause-told g c =
       λ t. absurd (cc),
       λ feasible. absurd (
           refused feasible_where_levels_meet L (sound_of c.args.walk.now.line.of)
-          c.args.walk.now.last (walk_within c.args.walk.now) c.args.walk.now.to.now (walk_to c.args.walk.now) run (c.carry_run-run.ensures.reached 0 (omega arith) c.in_ok-begun.ensures.run)
-          (λ shared. let served = c.shares_with.ensures.1 (subst (ShareANumber (run ∷ [])) there shared) in clash c.shares_with.result served c.if-not-shares_with.true) feasible),
+          c.args.walk.now.last (walk_within c.args.walk.now) c.args.walk.now.to.now (walk_to c.args.walk.now)
+          run (c.carry_run-run.ensures.reached 0 (omega arith) c.in_ok-begun.ensures.run)
+          (λ shared. let served = c.shares_with.ensures.1 (subst (ShareANumber (run ∷ [])) there shared) in
+          clash c.shares_with.result served c.if-not-shares_with.true) feasible),
     )
 
 pub returns-then-shares_with-clause-told : goal.returns-then-shares_with-clause-told
 returns-then-shares_with-clause-told g c =
     let L = line_along c.args.walk.now in
     let run = c.carry_run-run.result in
-    let shared = subst (ShareANumber (run ∷ [])) (sym (level_is c.args.walk.now.to.now 0 c.level-2.result.now c.level-2.ensures)) (c.shares_with-2.ensures.0 c.if-shares_with.true) in
+    let shared = subst (ShareANumber (run ∷ [])) (sym (level_is c.args.walk.now.to.now 0 c.level-2.result.now c.level-2.ensures))
+    (c.shares_with-2.ensures.0 c.if-shares_with.true) in
     feasible_as_tested chosen_where_feasible L true (
       λ t.
           accepted feasible_where_levels_meet L (sound_of c.args.walk.now.line.of)
-          c.args.walk.now.last (walk_within c.args.walk.now) c.args.walk.now.to.now (walk_to c.args.walk.now) 0 (omega arith) run (c.carry_run-run.ensures.reached 0 (omega arith) c.in_ok-begun.ensures.run) shared,
+          c.args.walk.now.last (walk_within c.args.walk.now) c.args.walk.now.to.now (walk_to c.args.walk.now) 0
+          (omega arith) run (c.carry_run-run.ensures.reached 0 (omega arith) c.in_ok-begun.ensures.run) shared,
       λ feasible. refl,
     )
 
@@ -59,11 +63,13 @@ returns-then-shares_with-clause-count g c =
 
 pub returns-then-goes_with_some-clause-count : goal.returns-then-goes_with_some-clause-count
 returns-then-goes_with_some-clause-count g c =
-    all_tries (length (line_along c.args.walk.now).breaks) (c.args.walk.now.last - c.args.walk.now.begin) c.args.tries.now c.carry_run-run.ensures.arcs c.goes_with_some.ensures.count
+    all_tries (length (line_along c.args.walk.now).breaks) (c.args.walk.now.last - c.args.walk.now.begin)
+    c.args.tries.now c.carry_run-run.ensures.arcs c.goes_with_some.ensures.count
 
 pub returns-clause-count : goal.returns-clause-count
 returns-clause-count g c =
-    all_tries (length (line_along c.args.walk.now).breaks) (c.args.walk.now.last - c.args.walk.now.begin) c.args.tries.now c.carry_run-run.ensures.arcs c.goes_with_some.ensures.count
+    all_tries (length (line_along c.args.walk.now).breaks) (c.args.walk.now.last - c.args.walk.now.begin)
+    c.args.tries.now c.carry_run-run.ensures.arcs c.goes_with_some.ensures.count
 
 pub returns-clause-untold : goal.returns-clause-untold
 returns-clause-untold g c = λ none tried.
@@ -74,7 +80,8 @@ returns-clause-untold g c = λ none tried.
     let there = ap (level_at to) all ∙ level_is to (c.len-all.result - 1) c.level.result.now c.level.ensures in
     let first = level_is to 0 c.level-2.result.now c.level-2.ensures in
     let shared = subst (ShareANumber (run ∷ [])) (sym there) (c.shares_with.ensures.0 c.if-not-shares_with.false) in
-    let alone = alone_where L c.args.walk.now.from.now to c.args.walk.now.begin c.args.walk.now.last 0 c.in_ok-begun.begun run (sym c.in_ok-begun.ensures.known) c.in_ok-begun.ensures.run c.carry_run-run.ensures.led in
+    let alone = alone_where L c.args.walk.now.from.now to c.args.walk.now.begin c.args.walk.now.last 0
+    c.in_ok-begun.begun run (sym c.in_ok-begun.ensures.known) c.in_ok-begun.ensures.run c.carry_run-run.ensures.led in
     record {
       cumul = shared.0;
       reached = (c.carry_run-run.ensures.reached 0 (omega arith) c.in_ok-begun.ensures.run).reached shared.0 (alone_in run shared.0 shared.1);
@@ -83,7 +90,8 @@ returns-clause-untold g c = λ none tried.
         | inl some ↦ false≢true (sym c.if-goes_with_some.false ∙ c.goes_with_some.ensures.exact.1 (b, omega (arith, some), few, goes))
         | inr past ↦ (
             let here : b ≡ 0 = omega (arith, past) in
-            let served = c.shares_with-2.ensures.1 (subst (ShareANumber (run ∷ [])) first (alone.1 (subst (GoesAlone L c.args.walk.now.from.now to c.args.walk.now.begin c.args.walk.now.last) here goes))) in
+            let served = c.shares_with-2.ensures.1 (subst (ShareANumber (run ∷ [])) first
+            (alone.1 (subst (GoesAlone L c.args.walk.now.from.now to c.args.walk.now.begin c.args.walk.now.last) here goes))) in
             false≢true (sym c.if-shares_with.false ∙ served)
             )
       ];
@@ -98,7 +106,8 @@ returns-then-not-shares_with-clause-known g c = λ _.
     let there = ap (level_at to) all ∙ level_is to (c.len-all.result - 1) c.level.result.now c.level.ensures in (
       sym c.in_ok-begun.ensures.known,
       λ untold.
-          let reached = in_alone run untold.cumul ((c.carry_run-run.ensures.reached 0 (omega arith) c.in_ok-begun.ensures.run).all refl untold.cumul untold.reached) in
+          let reached = in_alone run untold.cumul
+          ((c.carry_run-run.ensures.reached 0 (omega arith) c.in_ok-begun.ensures.run).all refl untold.cumul untold.reached) in
           let reaches = (walk_to c.args.walk.now (length L.breaks) (omega arith) untold.cumul).1 untold.reaches in
           let served = c.shares_with.ensures.1 (subst (ShareANumber (run ∷ [])) there (untold.cumul, reached, reaches)) in
           clash c.shares_with.result served c.if-not-shares_with.true,
@@ -110,7 +119,8 @@ returns-then-shares_with-clause-known g c = λ _.
     let to = c.args.walk.now.to.now in
     let run = c.carry_run-run.result in
     let first = level_is to 0 c.level-2.result.now c.level-2.ensures in
-    let alone = alone_where L c.args.walk.now.from.now to c.args.walk.now.begin c.args.walk.now.last 0 c.in_ok-begun.begun run (sym c.in_ok-begun.ensures.known) c.in_ok-begun.ensures.run c.carry_run-run.ensures.led in (
+    let alone = alone_where L c.args.walk.now.from.now to c.args.walk.now.begin c.args.walk.now.last 0
+    c.in_ok-begun.begun run (sym c.in_ok-begun.ensures.known) c.in_ok-begun.ensures.run c.carry_run-run.ensures.led in (
       sym c.in_ok-begun.ensures.known,
       λ untold. untold.none 0 (omega arith) (alone.0 (subst (ShareANumber (run ∷ [])) (sym first) (c.shares_with-2.ensures.0 c.if-shares_with.true))),
     )

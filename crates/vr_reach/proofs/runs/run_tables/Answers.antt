@@ -14,6 +14,8 @@ loop-k-preserved c =
     let long = c.loop-k.invariant.one_of_each in
     record {
       one_of_each = ap length c.in_ok-push.ensures.ok ∙ omega (arith, n, long);
-      each = subst (λ found. (j : ℕ) (other : Option (List Run)) → j < length found → AreKnownRuns (get_or tables j []) (get_or found j other)) (sym c.in_ok-push.ensures.ok)
-          (table_more tables before c.loop-k.k new long c.loop-k.invariant.each (subst (λ sets. AreKnownRuns sets new) (sym (c.get.ensures.value [])) c.in_ok-runs_of.ensures));
+      each = subst (λ found. (j : ℕ) (other : Option (List Run)) → j < length found → AreKnownRuns (get_or tables j []) (get_or found j other))
+          (sym c.in_ok-push.ensures.ok)
+          (table_more tables before c.loop-k.k new long c.loop-k.invariant.each
+          (subst (λ sets. AreKnownRuns sets new) (sym (c.get.ensures.value [])) c.in_ok-runs_of.ensures));
     }

@@ -7,8 +7,10 @@ pub returns-then-a-b : goal.returns-then-a-b
 returns-then-a-b c =
     let a = c.args.a in
     let b = c.args.b in
-    let first : a.lo ≤ℤ b.hi = (let test = c.if-a-b.true in omega (arith, ints, test)) in
-    (λ t. overlap a b c.requires.first c.requires.second first (omega (arith, ints, t)), λ shared. let second = begins_within b a (turned a b shared) in grind (arith, ints, second))
+    let first : a.lo ≤ℤ b.hi = (let test = c.if-a-b.true in omega (arith, ints, test)) in (
+      λ t. overlap a b c.requires.first c.requires.second first (omega (arith, ints, t)),
+      λ shared. let second = begins_within b a (turned a b shared) in grind (arith, ints, second),
+    )
 
 pub returns-else-a-b : goal.returns-else-a-b
 returns-else-a-b c =

@@ -19,14 +19,20 @@ pub runs_share-requires-clause-first : goal.runs_share-requires-clause-first
 runs_share-requires-clause-first c = let test = c.if-run.false in omega (arith, ints, test)
 
 pub runs_share-requires-clause-second : goal.runs_share-requires-clause-second
-runs_share-requires-clause-second c = subst (λ (r : Run). r.lo ≤ℤ r.hi) (read c) (in_order (neg_ℤ limit) c.args.set.now c.loop-k.k c.run.result c.len-runs.ensures.normal (low c))
+runs_share-requires-clause-second c =
+    subst (λ (r : Run). r.lo ≤ℤ r.hi) (read c) (in_order (neg_ℤ limit) c.args.set.now c.loop-k.k c.run.result c.len-runs.ensures.normal (low c))
 
 pub returns-then-runs_share : goal.returns-then-runs_share
 returns-then-runs_share c =
-    let at = (goal.at.returns-then-runs_share c).After-run in
-    (λ t. shared_with_one c.args.run c.args.set.now c.loop-k.k c.run.result (low at) (subst (λ (r : Run). ShareANumber (c.args.run ∷ []) (r ∷ [])) (sym (read at)) (c.runs_share.ensures.0 c.if-runs_share.true)), λ shared. refl)
+    let at = (goal.at.returns-then-runs_share c).After-run in (
+      λ t. shared_with_one c.args.run c.args.set.now c.loop-k.k c.run.result (low at)
+          (subst (λ (r : Run). ShareANumber (c.args.run ∷ []) (r ∷ [])) (sym (read at)) (c.runs_share.ensures.0 c.if-runs_share.true)),
+      λ shared. refl,
+    )
 
 pub loop-k-preserved : goal.loop-k-preserved
 loop-k-preserved c =
     let at = (goal.at.loop-k-preserved c).After-run in
-    λ shared. shared_behind c.args.run c.args.set.now c.loop-k.k c.run.result (low at) (λ both. clash c.runs_share.result (c.runs_share.ensures.1 (subst (λ (r : Run). ShareANumber (c.args.run ∷ []) (r ∷ [])) (read at) both)) c.if-runs_share.false) (c.loop-k.invariant shared)
+    λ shared. shared_behind c.args.run c.args.set.now c.loop-k.k c.run.result (low at)
+    (λ both. clash c.runs_share.result (c.runs_share.ensures.1 (subst (λ (r : Run). ShareANumber (c.args.run ∷ []) (r ∷ [])) (read at) both))
+    c.if-runs_share.false) (c.loop-k.invariant shared)

@@ -38,13 +38,16 @@ returns-then-here-clause-reached g c = λ taken few is.
     let of = walk.line.of in
     let run = c.cross_by_run-here.result.run in
     none_at lines_are_sound reached_by_crossing arc_alone of.closed.model.now of.closed.well_formed of.d of.v of.dimension of.vehicle of.list.now of.used
-    (c.loop-k.k + 1) walk.last taken (let low = c.loop-k-test.true in omega (arith, low)) walk.within run (empty run.lo run.hi (let less = c.if-here.true in omega (arith, ints, less))) (c.cross_by_run-here.ensures.reached taken few (c.loop-k.invariant.reached taken few is))
+    (c.loop-k.k + 1) walk.last taken (let low = c.loop-k-test.true in omega (arith, low))
+    walk.within run (empty run.lo run.hi (let less = c.if-here.true in omega (arith, ints, less)))
+    (c.cross_by_run-here.ensures.reached taken few (c.loop-k.invariant.reached taken few is))
 
 pub returns-then-here-clause-count : goal.returns-then-here-clause-count
 returns-then-here-clause-count g c = λ is.
     let walk = c.args.walk.now in
     let L = line_along walk in
-    let n = arc_counted runs_are_counted reached_as_tested L c.loop-k.k walk.last c.loop-k.here.run c.loop-k-test.true c.loop-k.invariant.cumuls (c.loop-k.invariant.reached 0 (omega arith) is)
+    let n = arc_counted runs_are_counted reached_as_tested L c.loop-k.k walk.last c.loop-k.here.run
+    c.loop-k-test.true c.loop-k.invariant.cumuls (c.loop-k.invariant.reached 0 (omega arith) is)
     c.args.steps.now (steps_between L walk.begin walk.last) c.loop-k.steps c.tick.new.self (c.loop-k.invariant.count is) c.tick.ensures in
     omega (arith, n)
 
@@ -64,7 +67,8 @@ returns-then-here-clause-led g c =
     let run = c.cross_by_run-here.result.run in
     let begun = c.loop-k.invariant.begun in
     let low = c.loop-k-test.true in
-    none_led L (in_run c.args.from) walk.begin (k + 1) walk.last (omega (arith, begun)) (omega (arith, low)) run (empty run.lo run.hi (let less = c.if-here.true in omega (arith, ints, less)))
+    none_led L (in_run c.args.from) walk.begin (k + 1) walk.last (omega (arith, begun))
+    (omega (arith, low)) run (empty run.lo run.hi (let less = c.if-here.true in omega (arith, ints, less)))
     (led_more L (in_run c.args.from) walk.begin k begun c.loop-k.here.run run c.loop-k.invariant.led c.cross_by_run-here.ensures.led)
 
 pub loop-k-preserved : goal.loop-k-preserved
@@ -77,8 +81,10 @@ loop-k-preserved g c =
       below = c.cross_by_run-here.ensures.below;
       cumuls = c.cross_by_run-here.ensures.cumuls (let less = c.if-here.false in omega (arith, ints, less));
       reached = λ b few is. c.cross_by_run-here.ensures.reached b few (c.loop-k.invariant.reached b few is);
-      led = led_more L (in_run c.args.from) walk.begin c.loop-k.k c.loop-k.invariant.begun c.loop-k.here.run c.cross_by_run-here.result.run c.loop-k.invariant.led c.cross_by_run-here.ensures.led;
-      count = λ is. arc_counted runs_are_counted reached_as_tested L c.loop-k.k walk.last c.loop-k.here.run c.loop-k-test.true c.loop-k.invariant.cumuls (c.loop-k.invariant.reached 0 (omega arith) is)
+      led = led_more L (in_run c.args.from) walk.begin c.loop-k.k c.loop-k.invariant.begun c.loop-k.here.run
+          c.cross_by_run-here.result.run c.loop-k.invariant.led c.cross_by_run-here.ensures.led;
+      count = λ is. arc_counted runs_are_counted reached_as_tested L c.loop-k.k walk.last c.loop-k.here.run
+          c.loop-k-test.true c.loop-k.invariant.cumuls (c.loop-k.invariant.reached 0 (omega arith) is)
           c.args.steps.now (steps_between L walk.begin walk.last) c.loop-k.steps c.tick.new.self (c.loop-k.invariant.count is) c.tick.ensures;
       arcs = let arcs = c.loop-k.invariant.arcs in let one = c.tick.ensures in omega (arith, arcs, one);
     }
@@ -99,7 +105,8 @@ pub returns-clause-led : goal.returns-clause-led
 returns-clause-led g c =
     let walk = c.args.walk.now in
     let at : c.loop-k.k ≡ walk.last = (let within = c.loop-k.invariant.within in let done = c.loop-k-test.false in omega (arith, within, done)) in
-    subst (λ k. (y : ℤ) → IsTrue (in_run c.loop-k.here.run y) ↔ IsLedToWithoutBreaks (line_along walk) (in_run c.args.from) walk.begin (k - walk.begin) y) at c.loop-k.invariant.led
+    subst (λ k. (y : ℤ) → IsTrue (in_run c.loop-k.here.run y) ↔ IsLedToWithoutBreaks (line_along walk) (in_run c.args.from) walk.begin (k - walk.begin) y)
+    at c.loop-k.invariant.led
 
 pub returns-then-here-clause-cumuls : goal.returns-then-here-clause-cumuls
 returns-then-here-clause-cumuls g c = c.cross_by_run-here.ensures.cumuls

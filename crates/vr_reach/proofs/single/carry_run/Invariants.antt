@@ -18,8 +18,10 @@ invariant-loop-k g l = record {
   node : l.here.node ≡ node_at_stop l.walk.line.of.closed.model.now l.walk.line.of.v l.walk.line.of.list.now l.k;
   below : l.here.node < l.walk.line.of.closed.model.now.nodes;
   cumuls : IsCumulRun l.here.run;
-  reached : (b : ℕ) → b ≤ length (line_along l.walk).breaks → IsOnlyRun (level_at l.walk.from.now b) l.fn.from → IsReachedRun (line_along l.walk) l.k b l.here.run;
+  reached : (b : ℕ) → b ≤ length (line_along l.walk).breaks
+      → IsOnlyRun (level_at l.walk.from.now b) l.fn.from → IsReachedRun (line_along l.walk) l.k b l.here.run;
   led : (y : ℤ) → IsTrue (in_run l.here.run y) ↔ IsLedToWithoutBreaks (line_along l.walk) (in_run l.fn.from) l.walk.begin (l.k - l.walk.begin) y;
-  count : IsOnlyRun (level_at l.walk.from.now 0) l.fn.from → l.steps + steps_between (line_along l.walk) l.k l.walk.last ≤ l.fn.steps + steps_between (line_along l.walk) l.walk.begin l.walk.last;
+  count : IsOnlyRun (level_at l.walk.from.now 0) l.fn.from
+      → l.steps + steps_between (line_along l.walk) l.k l.walk.last ≤ l.fn.steps + steps_between (line_along l.walk) l.walk.begin l.walk.last;
   arcs : l.steps + l.walk.begin ≤ l.fn.steps + l.k;
 }

@@ -11,7 +11,8 @@ use Rattle.vr_reach.proofs.LineParts.{way_of}
 use Rattle.vr_reach.proofs.SingleLemmas.{as_is, run_next, cumuls_behind}
 use Rattle.vr_reach.proofs.single.cross_by_run.Goals as goal
 
-lo_is : (c : goal.After-run_behind-run) → c.run_behind-run.result.lo ≡ int_max (c.args.here.run.lo +ℤ c.transit-transit.result) c.stop_ahead-ahead.result.allowed.lo
+lo_is : (c : goal.After-run_behind-run)
+    → c.run_behind-run.result.lo ≡ int_max (c.args.here.run.lo +ℤ c.transit-transit.result) c.stop_ahead-ahead.result.allowed.lo
 lo_is c =
     let t = c.transit-transit.ensures in
     let low = t.least in
@@ -19,7 +20,8 @@ lo_is c =
     let transit_is = as_is c.transit-transit.result (omega (arith, ints, low)) (omega (arith, ints, high)) in
     c.run_behind-run.ensures.lo ∙ ap (λ n. int_max (c.args.here.run.lo +ℤ n) c.stop_ahead-ahead.result.allowed.lo) transit_is
 
-hi_is : (c : goal.After-run_behind-run) → c.run_behind-run.result.hi ≡ int_min (c.args.here.run.hi +ℤ (c.transit-transit.result +ℤ c.args.line.now.slack)) c.stop_ahead-ahead.result.allowed.hi
+hi_is : (c : goal.After-run_behind-run)
+    → c.run_behind-run.result.hi ≡ int_min (c.args.here.run.hi +ℤ (c.transit-transit.result +ℤ c.args.line.now.slack)) c.stop_ahead-ahead.result.allowed.hi
 hi_is c =
     let t = c.transit-transit.ensures in
     let low = t.least in
@@ -37,11 +39,13 @@ returns-clause-reached c = λ taken few reached.
     let ahead = c.stop_ahead-ahead.ensures in
     run_next lines_are_sound reached_by_crossing arc_alone of.closed.model.now of.closed.well_formed of.d of.v of.dimension of.vehicle of.list.now of.used
     c.args.k taken c.requires.arc few c.args.here.run c.stop_ahead-ahead.result.allowed c.run_behind-run.result c.requires.cumuls reached ahead.allowed
-    c.args.here.node c.stop_ahead-ahead.result.node c.requires.node ahead.node c.transit-transit.result line.slack c.transit-transit.ensures.value line.slack_is line.slack_range.at_least (lo_is c) (hi_is c)
+    c.args.here.node c.stop_ahead-ahead.result.node c.requires.node ahead.node c.transit-transit.result
+    line.slack c.transit-transit.ensures.value line.slack_is line.slack_range.at_least (lo_is c) (hi_is c)
 
 pub returns-clause-cumuls : goal.returns-clause-cumuls
 returns-clause-cumuls c =
-    cumuls_behind c.args.here.run c.stop_ahead-ahead.result.allowed c.run_behind-run.result c.transit-transit.result c.args.line.now.slack c.stop_ahead-ahead.ensures.allowed.ends (lo_is c) (hi_is c)
+    cumuls_behind c.args.here.run c.stop_ahead-ahead.result.allowed c.run_behind-run.result
+    c.transit-transit.result c.args.line.now.slack c.stop_ahead-ahead.ensures.allowed.ends (lo_is c) (hi_is c)
 
 pub returns-clause-led : goal.returns-clause-led
 returns-clause-led c =
@@ -49,6 +53,8 @@ returns-clause-led c =
     let of = line.of in
     let ahead = c.stop_ahead-ahead.ensures in
     let next : c.args.k + 1 ≡ suc c.args.k = omega arith in
-    let way = way_of of.closed.model.now of.d of.v of.list.now c.args.k c.args.here.node c.stop_ahead-ahead.result.node c.requires.arc c.requires.node ahead.node c.transit-transit.result c.transit-transit.ensures.value in
-    crossed (line_of of) c.args.k c.args.here.run c.stop_ahead-ahead.result.allowed c.run_behind-run.result c.transit-transit.result line.slack c.requires.cumuls.in_order line.slack_range.at_least (lo_is c) (hi_is c)
+    let way = way_of of.closed.model.now of.d of.v of.list.now c.args.k c.args.here.node c.stop_ahead-ahead.result.node
+    c.requires.arc c.requires.node ahead.node c.transit-transit.result c.transit-transit.ensures.value in
+    crossed (line_of of) c.args.k c.args.here.run c.stop_ahead-ahead.result.allowed c.run_behind-run.result
+    c.transit-transit.result line.slack c.requires.cumuls.in_order line.slack_range.at_least (lo_is c) (hi_is c)
     (subst (λ i. IsAllowedRun (line_of of) i c.stop_ahead-ahead.result.allowed) next ahead.allowed) way line.slack_is

@@ -12,4 +12,5 @@ returns-clause-known c = λ d are.
 
 pub returns-in_err-allowed-clause-known : goal.returns-in_err-allowed-clause-known
 returns-in_err-allowed-clause-known c = λ d are.
-    ap is_some c.from_residual.ensures ∙ c.in_err-allowed.ensures.known ∙ one_counted runs_are_counted (allowed_by c.args.model.now d c.args.v End) c.args.ends.now.end_set are.end_set_is
+    ap is_some c.from_residual.ensures ∙ c.in_err-allowed.ensures.known
+    ∙ one_counted runs_are_counted (allowed_by c.args.model.now d c.args.v End) c.args.ends.now.end_set are.end_set_is

@@ -15,7 +15,8 @@ returns-then-len-ne1-clause-known c =
 pub returns-clause-run : goal.returns-clause-run
 returns-clause-run c =
     let is = level_is c.args.levels.now c.args.b c.level-set.result.now c.level-set.ensures in
-    subst (λ set. IsOnlyRun set c.run.result) (sym is) (only_level c.level-set.result.now c.run.result (sym c.len.ensures.value ∙ c.if-len-ne1.false) c.run.ensures c.len.ensures.normal
+    subst (λ set. IsOnlyRun set c.run.result) (sym is)
+    (only_level c.level-set.result.now c.run.result (sym c.len.ensures.value ∙ c.if-len-ne1.false) c.run.ensures c.len.ensures.normal
     (subst IsCumuls is (c.requires.cumuls c.args.b [] c.requires.taken)))
 
 pub returns-clause-known : goal.returns-clause-known

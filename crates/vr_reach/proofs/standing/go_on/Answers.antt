@@ -12,7 +12,8 @@ pub cross_arc-requires-clause-stop : goal.cross_arc-requires-clause-stop
 cross_arc-requires-clause-stop c = asked_so c.whole-whole.ensures c.asked_of-asked.ensures (λ m d v l. c.args.k ≤ length l) c.requires.stop
 
 pub cross_arc-requires-clause-from : goal.cross_arc-requires-clause-from
-cross_arc-requires-clause-from c = asked_so c.whole-whole.ensures c.asked_of-asked.ensures (λ m d v l. IsReachedAt m d v l c.args.k c.args.here.now) c.requires.here
+cross_arc-requires-clause-from c =
+    asked_so c.whole-whole.ensures c.asked_of-asked.ensures (λ m d v l. IsReachedAt m d v l c.args.k c.args.here.now) c.requires.here
 
 pub returns : goal.returns
 returns c =

@@ -12,21 +12,34 @@ pub asked_of-asked-requires-clause-used : goal.asked_of-asked-requires-clause-us
 asked_of-asked-requires-clause-used c = subst (IsUsed c.args.stops.now.closed.model.now) (sym c.whole-whole.ensures) c.requires.used
 
 pub levels_before-from-requires : goal.levels_before-from-requires
-levels_before-from-requires c = record { row = row_before c.args.stops.now.closed.model.now c.args.stops.now.d c.args.stops.now.v c.args.known.now.list.now c.args.known.now.rows.now c.requires.known c.args.shared.front c.requires.shared.front.within_old }
+levels_before-from-requires c = record {
+  row = row_before c.args.stops.now.closed.model.now c.args.stops.now.d c.args.stops.now.v c.args.known.now.list.now
+      c.args.known.now.rows.now c.requires.known c.args.shared.front c.requires.shared.front.within_old;
+}
 
 pub levels_behind-to-requires-clause-row : goal.levels_behind-to-requires-clause-row
-levels_behind-to-requires-clause-row c = row_behind c.args.stops.now.closed.model.now c.args.stops.now.d c.args.stops.now.v c.args.known.now.list.now c.args.known.now.rows.now c.requires.known c.args.shared.back c.requires.shared.back.within_old
+levels_behind-to-requires-clause-row c = row_behind c.args.stops.now.closed.model.now c.args.stops.now.d c.args.stops.now.v
+    c.args.known.now.list.now c.args.known.now.rows.now c.requires.known c.args.shared.back c.requires.shared.back.within_old
 
 pub invariant_of-leg : goal.invariant_of-leg
 invariant_of-leg c =
     let apart = c.requires.shared.apart in
     record {
-      runs_are = asked_so c.whole-whole.ensures c.asked_of-asked.ensures (λ m d v l. IfSome c.runs-runs.result (λ found. AreVisitRuns m d v found.now)) c.runs-runs.ensures.runs;
+      runs_are = asked_so c.whole-whole.ensures c.asked_of-asked.ensures
+          (λ m d v l. IfSome c.runs-runs.result (λ found. AreVisitRuns m d v found.now)) c.runs-runs.ensures.runs;
       order = omega (arith, apart);
-      within = asked_so c.whole-whole.ensures c.asked_of-asked.ensures (λ m d v l. length c.args.new.now - c.args.shared.back + 1 ≤ suc (length l)) (omega arith);
-      begun = begun_as_asked c.whole-whole.ensures c.asked_of-asked.ensures c.args.shared.front c.levels_before-from.result.now (left_at c.args.stops.now.closed.model.now c.args.stops.now.d c.args.stops.now.v c.args.known.now.list.now c.args.new.now c.asked_of-asked.result.ends.now c.asked_of-asked.ensures.ends_are c.args.known.now.rows.now c.requires.known c.requires.used c.args.shared.front c.requires.shared.front c.levels_before-from.result.now c.levels_before-from.ensures.start c.levels_before-from.ensures.row);
-      met = met_as_asked c.whole-whole.ensures c.asked_of-asked.ensures (length c.args.new.now - c.args.shared.back + 1) c.levels_behind-to.result.now (met_at c.args.stops.now.closed.model.now c.args.stops.now.d c.args.stops.now.v c.args.known.now.list.now c.args.new.now c.asked_of-asked.result.ends.now c.asked_of-asked.ensures.ends_are c.args.known.now.rows.now c.requires.known c.requires.used c.args.shared.back c.requires.shared.back c.levels_behind-to.result.now c.levels_behind-to.ensures.end c.levels_behind-to.ensures.row);
+      within =
+          asked_so c.whole-whole.ensures c.asked_of-asked.ensures (λ m d v l. length c.args.new.now - c.args.shared.back + 1 ≤ suc (length l)) (omega arith);
+      begun = begun_as_asked c.whole-whole.ensures c.asked_of-asked.ensures c.args.shared.front c.levels_before-from.result.now
+          (left_at c.args.stops.now.closed.model.now c.args.stops.now.d c.args.stops.now.v c.args.known.now.list.now c.args.new.now
+          c.asked_of-asked.result.ends.now c.asked_of-asked.ensures.ends_are c.args.known.now.rows.now c.requires.known c.requires.used c.args.shared.front
+          c.requires.shared.front c.levels_before-from.result.now c.levels_before-from.ensures.start c.levels_before-from.ensures.row);
+      met = met_as_asked c.whole-whole.ensures c.asked_of-asked.ensures (length c.args.new.now - c.args.shared.back + 1) c.levels_behind-to.result.now
+          (met_at c.args.stops.now.closed.model.now c.args.stops.now.d c.args.stops.now.v c.args.known.now.list.now c.args.new.now
+          c.asked_of-asked.result.ends.now c.asked_of-asked.ensures.ends_are c.args.known.now.rows.now c.requires.known c.requires.used
+          c.args.shared.back c.requires.shared.back c.levels_behind-to.result.now c.levels_behind-to.ensures.end c.levels_behind-to.ensures.row);
     }
 
 pub returns : goal.returns
-returns c = so_asked c.whole-whole.ensures c.asked_of-asked.ensures (λ m d v l. IfOk c.goes_along.result (λ goes. goes ≡ is_feasible (line m d v l))) c.goes_along.ensures
+returns c = so_asked c.whole-whole.ensures c.asked_of-asked.ensures
+    (λ m d v l. IfOk c.goes_along.result (λ goes. goes ≡ is_feasible (line m d v l))) c.goes_along.ensures

@@ -12,18 +12,24 @@ pub asked_of-asked-requires-clause-used : goal.asked_of-asked-requires-clause-us
 asked_of-asked-requires-clause-used c = subst (IsUsed c.args.stops.now.closed.model.now) (sym c.whole-whole.ensures) c.requires.used
 
 pub levels_behind-to-requires-clause-row : goal.levels_behind-to-requires-clause-row
-levels_behind-to-requires-clause-row c = row_behind c.args.stops.now.closed.model.now c.args.stops.now.d c.args.stops.now.v c.args.known.now.list.now c.args.known.now.rows.now c.requires.known c.args.back c.requires.back.within_old
+levels_behind-to-requires-clause-row c = row_behind c.args.stops.now.closed.model.now c.args.stops.now.d c.args.stops.now.v
+    c.args.known.now.list.now c.args.known.now.rows.now c.requires.known c.args.back c.requires.back.within_old
 
 pub invariant_of-leg : goal.invariant_of-leg
 invariant_of-leg c =
     let apart = c.requires.apart in
     record {
-      runs_are = asked_so c.whole-whole.ensures c.asked_of-asked.ensures (λ m d v l. IfSome c.runs-runs.result (λ found. AreVisitRuns m d v found.now)) c.runs-runs.ensures.runs;
+      runs_are = asked_so c.whole-whole.ensures c.asked_of-asked.ensures
+          (λ m d v l. IfSome c.runs-runs.result (λ found. AreVisitRuns m d v found.now)) c.runs-runs.ensures.runs;
       order = omega (arith, apart);
       within = asked_so c.whole-whole.ensures c.asked_of-asked.ensures (λ m d v l. length c.args.new.now - c.args.back + 1 ≤ suc (length l)) (omega arith);
       begun = begun_as_asked c.whole-whole.ensures c.asked_of-asked.ensures c.args.k c.args.here.now c.requires.here;
-      met = met_as_asked c.whole-whole.ensures c.asked_of-asked.ensures (length c.args.new.now - c.args.back + 1) c.levels_behind-to.result.now (met_at c.args.stops.now.closed.model.now c.args.stops.now.d c.args.stops.now.v c.args.known.now.list.now c.args.new.now c.asked_of-asked.result.ends.now c.asked_of-asked.ensures.ends_are c.args.known.now.rows.now c.requires.known c.requires.used c.args.back c.requires.back c.levels_behind-to.result.now c.levels_behind-to.ensures.end c.levels_behind-to.ensures.row);
+      met = met_as_asked c.whole-whole.ensures c.asked_of-asked.ensures (length c.args.new.now - c.args.back + 1) c.levels_behind-to.result.now
+          (met_at c.args.stops.now.closed.model.now c.args.stops.now.d c.args.stops.now.v c.args.known.now.list.now c.args.new.now
+          c.asked_of-asked.result.ends.now c.asked_of-asked.ensures.ends_are c.args.known.now.rows.now c.requires.known c.requires.used
+          c.args.back c.requires.back c.levels_behind-to.result.now c.levels_behind-to.ensures.end c.levels_behind-to.ensures.row);
     }
 
 pub returns : goal.returns
-returns c = so_asked c.whole-whole.ensures c.asked_of-asked.ensures (λ m d v l. IfOk c.goes_along.result (λ goes. goes ≡ is_feasible (line m d v l))) c.goes_along.ensures
+returns c = so_asked c.whole-whole.ensures c.asked_of-asked.ensures
+    (λ m d v l. IfOk c.goes_along.result (λ goes. goes ≡ is_feasible (line m d v l))) c.goes_along.ensures

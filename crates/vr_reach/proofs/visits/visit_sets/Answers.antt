@@ -17,6 +17,7 @@ loop-node-preserved c =
       long = ap length c.in_ok-push.ensures.ok ∙ omega (arith, n, long);
       each = λ k low. subst (λ sets. P k (get_or sets k [])) (sym c.in_ok-push.ensures.ok) (elim (cases_lt k c.loop-node.node) [
         | inl earlier ↦ subst (P k) (sym (get_or_append_left before (new ∷ []) [] k (omega (arith, earlier, long)))) (c.loop-node.invariant.each k earlier)
-        | inr at ↦ (let e : c.loop-node.node ≡ k = omega (arith, low, at) in subst (P k) (sym (get_or_push before new [] k (long ∙ e))) (subst (λ j. P j new) e c.in_ok-visit_set.ensures))
+        | inr at ↦ (let e : c.loop-node.node ≡ k = omega (arith, low, at) in
+            subst (P k) (sym (get_or_push before new [] k (long ∙ e))) (subst (λ j. P j new) e c.in_ok-visit_set.ensures))
       ]);
     }

@@ -17,12 +17,14 @@ pub evaluator_of-requires-clause-vehicle : goal.evaluator_of-requires-clause-veh
 evaluator_of-requires-clause-vehicle g c =
     let of = c.args.leg.now.stops.of in
     let is = of.closed.well_formed.each_dimension of.d no_dimension of.dimension in
-    subst (λ (x : Dimension). of.v < length x.vehicle_evaluators) (c.get.ensures.value no_dimension) (let n = is.evaluator_of_each_vehicle in let low = of.vehicle in omega (arith, n, low))
+    subst (λ (x : Dimension). of.v < length x.vehicle_evaluators) (c.get.ensures.value no_dimension)
+    (let n = is.evaluator_of_each_vehicle in let low = of.vehicle in omega (arith, n, low))
 
 pub evaluator_of-requires-clause-numbers : goal.evaluator_of-requires-clause-numbers
 evaluator_of-requires-clause-numbers g c =
     let of = c.args.leg.now.stops.of in
-    subst (λ (x : Dimension). All (λ k. k < length x.evaluators) x.vehicle_evaluators) (c.get.ensures.value no_dimension) (of.closed.well_formed.each_dimension of.d no_dimension of.dimension).vehicle_evaluators_in_range
+    subst (λ (x : Dimension). All (λ k. k < length x.evaluators) x.vehicle_evaluators) (c.get.ensures.value no_dimension)
+    (of.closed.well_formed.each_dimension of.d no_dimension of.dimension).vehicle_evaluators_in_range
 
 pub invariant_of-line : goal.invariant_of-line
 invariant_of-line g c =

@@ -14,20 +14,24 @@ use Rattle.vr_read.proofs.backward.has_backward_vehicle.Goals as goal
 by_evaluator : (model : Model) (dimension : Dimension) → IsDimension model dimension
     → list_any (is_used_backward model dimension) (below (length dimension.evaluators)) ≡ has_backward_vehicle model dimension
 by_evaluator model dimension h =
-    used_once (λ k. is_backward model (evaluator_at dimension k)) dimension.vehicle_evaluators (length dimension.evaluators) (length model.vehicles) h.vehicle_evaluators_in_range h.evaluator_of_each_vehicle
+    used_once (λ k. is_backward model (evaluator_at dimension k)) dimension.vehicle_evaluators
+    (length dimension.evaluators) (length model.vehicles) h.vehicle_evaluators_in_range h.evaluator_of_each_vehicle
 
 pub returns-then-is_used_backward : goal.returns-then-is_used_backward
 returns-then-is_used_backward c =
     let model = c.args.of.model.now in let dimension = c.args.dimension.now in
-    test_finds (is_used_backward model dimension) (length dimension.evaluators) c.loop-k.k c.loop-k.invariant (omega arith) (sym c.is_used_backward.ensures ∙ c.if-is_used_backward.true)
+    test_finds (is_used_backward model dimension) (length dimension.evaluators) c.loop-k.k
+    c.loop-k.invariant (omega arith) (sym c.is_used_backward.ensures ∙ c.if-is_used_backward.true)
     ∙ by_evaluator model dimension c.requires.dimension
 
 pub loop-k-preserved : goal.loop-k-preserved
 loop-k-preserved c =
     let model = c.args.of.model.now in let dimension = c.args.dimension.now in
-    test_goes_on (is_used_backward model dimension) (length dimension.evaluators) c.loop-k.k c.loop-k.invariant (omega arith) (sym c.is_used_backward.ensures ∙ c.if-is_used_backward.false)
+    test_goes_on (is_used_backward model dimension) (length dimension.evaluators) c.loop-k.k
+    c.loop-k.invariant (omega arith) (sym c.is_used_backward.ensures ∙ c.if-is_used_backward.false)
 
 pub returns : goal.returns
 returns c =
     let model = c.args.of.model.now in let dimension = c.args.dimension.now in
-    test_ends (is_used_backward model dimension) (length dimension.evaluators) c.loop-k.k c.loop-k.invariant (omega arith) ∙ by_evaluator model dimension c.requires.dimension
+    test_ends (is_used_backward model dimension) (length dimension.evaluators) c.loop-k.k c.loop-k.invariant (omega arith)
+    ∙ by_evaluator model dimension c.requires.dimension

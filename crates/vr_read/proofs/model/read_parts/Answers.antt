@@ -5,4 +5,5 @@ use Rattle.vr_read.proofs.model.read_parts.Goals as goal
 
 pub returns : goal.returns
 unfolding parts
-returns c = then _ c.in_ok-dimensions.ensures (then _ c.in_ok-tables.ensures (then _ (otherwise _ _ _ _ c.in_ok-usual.ensures c.in_ok-search.ensures) (gives (search rules))))
+returns c = then _ c.in_ok-dimensions.ensures
+    (then _ c.in_ok-tables.ensures (then _ (otherwise _ _ _ _ c.in_ok-usual.ensures c.in_ok-search.ensures) (gives (search rules))))

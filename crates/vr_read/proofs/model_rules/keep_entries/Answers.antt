@@ -22,14 +22,18 @@ pub returns-in_err-keep_dimension_entries : goal.returns-in_err-keep_dimension_e
 returns-in_err-keep_dimension_entries c =
     let model = c.args.of.model.now in
     rule_stops (entries_rule_at c.args.path.now model) (length model.dimensions) c.loop-d.d c.loop-d.invariant (omega arith) _
-    (moved model (c.in_ok-place.ensures ∙ ap (λ p. item_path p c.loop-d.d) c.in_ok-dimensions.ensures) (c.get.ensures.value no_dimension) c.in_err-keep_dimension_entries.ensures)
+    (moved model (c.in_ok-place.ensures ∙ ap (λ p. item_path p c.loop-d.d) c.in_ok-dimensions.ensures)
+    (c.get.ensures.value no_dimension) c.in_err-keep_dimension_entries.ensures)
     c.from_residual-in_err-keep_dimension_entries.ensures.1
 
 pub loop-d-preserved : goal.loop-d-preserved
 loop-d-preserved c =
     let model = c.args.of.model.now in
     rule_passes (entries_rule_at c.args.path.now model) (length model.dimensions) c.loop-d.d c.loop-d.invariant (omega arith)
-    (moved model (c.in_ok-place.ensures ∙ ap (λ p. item_path p c.loop-d.d) c.in_ok-dimensions.ensures) (c.get.ensures.value no_dimension) c.in_ok-keep_dimension_entries.ensures)
+    (moved model (c.in_ok-place.ensures ∙ ap (λ p. item_path p c.loop-d.d) c.in_ok-dimensions.ensures)
+    (c.get.ensures.value no_dimension) c.in_ok-keep_dimension_entries.ensures)
 
 pub returns : goal.returns
-returns c = let model = c.args.of.model.now in rule_ends (entries_rule_at c.args.path.now model) (length model.dimensions) c.loop-d.d c.loop-d.invariant (omega arith)
+returns c =
+    let model = c.args.of.model.now in
+    rule_ends (entries_rule_at c.args.path.now model) (length model.dimensions) c.loop-d.d c.loop-d.invariant (omega arith)

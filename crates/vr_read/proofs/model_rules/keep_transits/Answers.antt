@@ -22,4 +22,6 @@ loop-d-preserved c =
     (c.entry.ensures ∙ ap (λ p. item_path p c.loop-d.d) c.in_ok-dimensions.ensures) c.in_ok-refuse_if.ensures)
 
 pub returns : goal.returns
-returns c = let model = c.args.of.model.now in rule_ends (transit_rule c.args.path.now model) (length model.dimensions) c.loop-d.d c.loop-d.invariant (omega arith)
+returns c =
+    let model = c.args.of.model.now in
+    rule_ends (transit_rule c.args.path.now model) (length model.dimensions) c.loop-d.d c.loop-d.invariant (omega arith)

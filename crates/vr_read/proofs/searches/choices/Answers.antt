@@ -17,8 +17,10 @@ returns-in_err-tries c = then _ c.in_ok-first.ensures (then _ c.in_ok-improve.en
 
 pub returns-in_err-solutions : goal.returns-in_err-solutions
 unfolding choices
-returns-in_err-solutions c = then _ c.in_ok-first.ensures (then _ c.in_ok-improve.ensures (then _ c.in_ok-tries.ensures (stops _ _ c.in_err-solutions.ensures c.from_residual-in_err-solutions.ensures.1)))
+returns-in_err-solutions c = then _ c.in_ok-first.ensures
+    (then _ c.in_ok-improve.ensures (then _ c.in_ok-tries.ensures (stops _ _ c.in_err-solutions.ensures c.from_residual-in_err-solutions.ensures.1)))
 
 pub returns : goal.returns
 unfolding choices
-returns c = then _ c.in_ok-first.ensures (then _ c.in_ok-improve.ensures (then _ c.in_ok-tries.ensures (then _ c.in_ok-solutions.ensures (gives (search rules)))))
+returns c =
+    then _ c.in_ok-first.ensures (then _ c.in_ok-improve.ensures (then _ c.in_ok-tries.ensures (then _ c.in_ok-solutions.ensures (gives (search rules)))))

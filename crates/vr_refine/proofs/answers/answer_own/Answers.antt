@@ -18,5 +18,6 @@ pub returns-clause-reply : goal.returns-clause-reply
 returns-clause-reply g c =
     let model = c.args.lookups.now.closed.model.now in
     let reports = joined_reports (λ w. (goal.Watch-dyn g (w.vtable, w.value)).after w.value) c.args.watch.now.items in
-    let P : Option (List (List ℕ)) → Type 0 = λ o. IfOk c.answer_from.result (AnswersReply (reply_to_found c.args.mode reports model (found_with c.args.mode model o))) in
+    let P : Option (List (List ℕ)) → Type 0 = λ o. IfOk c.answer_from.result
+    (AnswersReply (reply_to_found c.args.mode reports model (found_with c.args.mode model o))) in
     subst P c.in_ok-first.ensures.lists c.answer_from.ensures.reply

@@ -19,7 +19,9 @@ returns-clause-found c =
     then _ c.in_ok-given.ensures.found (subst P c.root-path.ensures c.priced_from.ensures)
 
 pub returns-clause-well_formed : goal.returns-clause-well_formed
-returns-clause-well_formed c = IfOk-weaker c.priced_from.result _ _ (λ it sound. sound.well_formed) (answered (priced_ensures (view c.args.value)) (returns-clause-found c))
+returns-clause-well_formed c =
+    IfOk-weaker c.priced_from.result _ _ (λ it sound. sound.well_formed) (answered (priced_ensures (view c.args.value)) (returns-clause-found c))
 
 pub returns-clause-are_lists : goal.returns-clause-are_lists
-returns-clause-are_lists c = IfOk-weaker c.priced_from.result _ _ (λ it sound. sound.are_lists) (answered (priced_ensures (view c.args.value)) (returns-clause-found c))
+returns-clause-are_lists c =
+    IfOk-weaker c.priced_from.result _ _ (λ it sound. sound.are_lists) (answered (priced_ensures (view c.args.value)) (returns-clause-found c))

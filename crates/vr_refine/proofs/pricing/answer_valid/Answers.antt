@@ -25,7 +25,8 @@ seated model lists None none is of_model = absurd (clash (are_lists model lists)
 seated model lists (Some routes) some is of_model = ap Some is
 
 -- the first routes that are found are their line, whatever the watchers report
-first_line : {E : Type 0} (r : Result Answer E) (reports : List Event → List ℕ) (model : Model) (lists : List (List ℕ)) (o : Option (List (List ℕ))) → o ≡ Some lists
+first_line : {E : Type 0} (r : Result Answer E) (reports : List Event → List ℕ) (model : Model) (lists : List (List ℕ)) (o : Option (List (List ℕ)))
+    → o ≡ Some lists
     → IfOk r (AnswersReply (reply_to_found mode.First reports model (found_with mode.First model o))) → IfOk r (AnswersReply (reply_to_lists model lists None))
 first_line r reports model lists o e found =
     let P : Option (List (List ℕ)) → Type 0 = λ o. IfOk r (AnswersReply (reply_to_found mode.First reports model (found_with mode.First model o))) in
@@ -35,7 +36,9 @@ pub returns-clause-reply : goal.returns-clause-reply
 returns-clause-reply c =
     let model = c.args.lookups.now.closed.model.now in
     let lists = c.args.lists.now in
-    first_line c.answer_from.result (λ events. []) model lists _ (seated model lists c.in_ok-routes.routes c.in_ok-routes.ensures.answer c.in_ok-routes.ensures.lists (are-lists model lists c.requires)) c.answer_from.ensures.reply
+    first_line c.answer_from.result (λ events. []) model lists _
+    (seated model lists c.in_ok-routes.routes c.in_ok-routes.ensures.answer c.in_ok-routes.ensures.lists (are-lists model lists c.requires))
+    c.answer_from.ensures.reply
 
 pub returns-clause-status : goal.returns-clause-status
 returns-clause-status c = IfOk-weaker c.answer_from.result _ _ (λ a is. same_status a.status all.Done is.status_is) (returns-clause-reply c)

@@ -22,20 +22,27 @@ solution_line_over-requires g c =
     let asked = asked_for c.args.wish in
     let well_formed = c.args.lookups.now.closed.well_formed in
     let is = of_answer model (refined model lists limit asked) c.in_ok-refine_over.field-0 c.in-Some.found c.in-Some.is
-    (c.in_ok-refine_over.ensures.answer ∙ (λ i. option_map (answer_of model) (refined model lists (c.limit_of-limit.ensures.limit i) (c.asked_for.ensures i)))) in
-    record { valid = ap (is_valid model) is.best ∙ (refining_is_sound model lists limit asked is.rest well_formed c.requires.routes.built well_formed.search_in_range.solutions_in_range.0 is.is).best_valid }
+    (c.in_ok-refine_over.ensures.answer
+    ∙ (λ i. option_map (answer_of model) (refined model lists (c.limit_of-limit.ensures.limit i) (c.asked_for.ensures i)))) in
+    record {
+      valid = ap (is_valid model) is.best
+          ∙ (refining_is_sound model lists limit asked is.rest well_formed c.requires.routes.built
+          well_formed.search_in_range.solutions_in_range.0 is.is).best_valid;
+    }
 
 pub returns-in-None-clause-told : goal.returns-in-None-clause-told
 returns-in-None-clause-told g c =
     let model = c.args.lookups.now.closed.model.now in
     subst (Reported (λ w. (goal.Watch-dyn g (w.vtable, w.value)).after w.value) c.args.watch.now.items c.refine_over.new.watch.items)
-    (λ i. (refined_search model c.args.routes.now.lists (c.limit_of-limit.ensures.limit i) (c.asked_for.ensures i)).outcome.events) c.in_ok-refine_over.ensures.told
+    (λ i. (refined_search model c.args.routes.now.lists (c.limit_of-limit.ensures.limit i) (c.asked_for.ensures i)).outcome.events)
+    c.in_ok-refine_over.ensures.told
 
 pub returns-in_ok-line-in-Some-clause-told : goal.returns-in_ok-line-in-Some-clause-told
 returns-in_ok-line-in-Some-clause-told g c =
     let model = c.args.lookups.now.closed.model.now in
     subst (Reported (λ w. (goal.Watch-dyn g (w.vtable, w.value)).after w.value) c.args.watch.now.items c.refine_over.new.watch.items)
-    (λ i. (refined_search model c.args.routes.now.lists (c.limit_of-limit.ensures.limit i) (c.asked_for.ensures i)).outcome.events) c.in_ok-refine_over.ensures.told
+    (λ i. (refined_search model c.args.routes.now.lists (c.limit_of-limit.ensures.limit i) (c.asked_for.ensures i)).outcome.events)
+    c.in_ok-refine_over.ensures.told
 
 pub returns-in_ok-line-in-Some-clause-line : goal.returns-in_ok-line-in-Some-clause-line
 returns-in_ok-line-in-Some-clause-line g c =
@@ -46,8 +53,10 @@ returns-in_ok-line-in-Some-clause-line g c =
     let well_formed = c.args.lookups.now.closed.well_formed in
     let answer = c.in-Some.found in
     let is = of_answer model (refined model lists limit asked) c.in_ok-refine_over.field-0 answer c.in-Some.is
-    (c.in_ok-refine_over.ensures.answer ∙ (λ i. option_map (answer_of model) (refined model lists (c.limit_of-limit.ensures.limit i) (c.asked_for.ensures i)))) in
-    let first_valid = (refining_is_sound model lists limit asked is.rest well_formed c.requires.routes.built well_formed.search_in_range.solutions_in_range.0 is.is).first_valid in
+    (c.in_ok-refine_over.ensures.answer
+    ∙ (λ i. option_map (answer_of model) (refined model lists (c.limit_of-limit.ensures.limit i) (c.asked_for.ensures i)))) in
+    let first_valid = (refining_is_sound model lists limit asked is.rest well_formed
+    c.requires.routes.built well_formed.search_in_range.solutions_in_range.0 is.is).first_valid in
     let bounds = costs_are_bounded model well_formed is.rest.first first_valid in
     let read : to_z w64 (of_z w64 answer.first_cost) ≡ answer.first_cost = omega (arith, ints, is.first_cost, bounds.least, bounds.greatest) in
     line_is model (refined model lists limit asked) answer c.in_ok-line-in-Some.line is

@@ -19,7 +19,8 @@ returns c =
     let t = c.args.t in
     let at = on.at in
     let once = c.know_once.ensures in
-    let served = served_tells lists pair.pickup pair.delivery at.vehicle at.pickup at.delivery once on.places.pickup_stands on.places.delivery_stands ∙ test_of_lt at.pickup at.delivery c.args.served.order in
+    let served = served_tells lists pair.pickup pair.delivery at.vehicle at.pickup at.delivery once on.places.pickup_stands on.places.delivery_stands
+    ∙ test_of_lt at.pickup at.delivery c.args.served.order in
     let n : ℕ = length (without_pair pair (route lists w)) in
     let vehicles = c.vehicles.ensures.value in
     let past = c.if-w-vehicles.false in

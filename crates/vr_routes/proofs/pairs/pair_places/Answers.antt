@@ -15,5 +15,6 @@ pub returns-then-first-second : goal.returns-then-first-second
 returns-then-first-second c =
     let a = c.in-Some.first in
     let b = c.in-Some-seat.second in
-    together_tells c.args.routes.now.lists c.args.pair.pickup c.args.pair.delivery a.vehicle a.place b.vehicle b.place c.know_once.ensures c.in-Some.ensures c.in-Some-seat.ensures
+    together_tells c.args.routes.now.lists c.args.pair.pickup c.args.pair.delivery a.vehicle
+    a.place b.vehicle b.place c.know_once.ensures c.in-Some.ensures c.in-Some-seat.ensures
     ∙ fails (a.vehicle == b.vehicle) (λ h. c.if-first-second.true (eq_of_test a.vehicle b.vehicle h))

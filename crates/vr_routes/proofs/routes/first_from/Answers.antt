@@ -9,12 +9,14 @@ pub returns-then-place-nodes : goal.returns-then-place-nodes
 returns-then-place-nodes c =
     let xs : List ℕ = c.args.nodes.now in
     let node : ℕ = c.args.node in
-    let point = IsPartitionPoint-from_clause (λ x. nat_lt x node) xs _ c.partition_point-place.ensures.partitioned (lower_first xs node c.requires.ascending) (λ a r q k. search rules) in
+    let point = IsPartitionPoint-from_clause (λ x. nat_lt x node) xs _ c.partition_point-place.ensures.partitioned
+    (lower_first xs node c.requires.ascending) (λ a r q k. search rules) in
     sym (first_from xs node _ c.partition_point-place.ensures.bound point ∙ slice_get-get_or xs c.partition_point-place.result 0 c.if-place-nodes.true)
 
 pub returns : goal.returns
 returns c =
     let xs : List ℕ = c.args.nodes.now in
     let node : ℕ = c.args.node in
-    let point = IsPartitionPoint-from_clause (λ x. nat_lt x node) xs _ c.partition_point-place.ensures.partitioned (lower_first xs node c.requires.ascending) (λ a r q k. search rules) in
+    let point = IsPartitionPoint-from_clause (λ x. nat_lt x node) xs _ c.partition_point-place.ensures.partitioned
+    (lower_first xs node c.requires.ascending) (λ a r q k. search rules) in
     sym (first_from xs node _ c.partition_point-place.ensures.bound point ∙ slice_get_past xs c.partition_point-place.result c.if-place-nodes.false)

@@ -31,12 +31,14 @@ returns-then-not-seat_list-clause-passes c many visits once =
     let v = c.loop-v.v in
     let i = c.loop-v.invariant in
     let kept = i.as_many in
-    let row : c.as_slice.result.now ≡ route whole v = c.as_slice.ensures ∙ c.index-lists-v.is ∙ get_or_default whole v c.index-lists-v.result [] c.loop-v-test.true in
+    let row : c.as_slice.result.now ≡ route whole v = c.as_slice.ensures ∙ c.index-lists-v.is
+    ∙ get_or_default whole v c.index-lists-v.result [] c.loop-v-test.true in
     let part : List (List ℕ) = slice_set now v (route now v ++ route whole v) in
     let same : length now ≡ length whole = omega (arith, kept, many) in
     let as_many : length part ≡ length whole = omega (arith, same, length-set now v (route now v ++ route whole v)) in
     let some = next_part whole now v same c.loop-v-test.true i.done i.left in
-    let is_part : slice_set now v (route now v ++ route whole v) ≡ slice_set now v (route now v ++ c.as_slice.result.now) = ap (λ l. slice_set now v (route now v ++ l)) (sym row) in
+    let is_part : slice_set now v (route now v ++ route whole v) ≡ slice_set now v (route now v ++ c.as_slice.result.now) =
+    ap (λ l. slice_set now v (route now v ++ l)) (sym row) in
     sym c.if-not-seat_list.true ∙ c.seat_list.ensures.passes
     (subst (HaveVisits c.args.model.now) is_part (part_visits c.args.model.now whole part as_many some visits))
     (subst IsOnce is_part (part_once whole part as_many some once))

@@ -11,12 +11,17 @@ use Rattle.vr_ruin.proofs.accepting.accept.Goals as goal
 told_is : (g : Over) (c : After-event_of g) → c.event_of.result ∷ [] ≡ accept_events c.args.at.now c.args.new
 told_is g c =
     ap (λ event. event ∷ []) c.event_of.ensures
-    ∙ sym (ap₂ (λ a b. cond (a && b) (accept_event c.args.at.now c.args.new ∷ []) []) (sym c.is_best.ensures ∙ c.if-not-is_best.false) (eq-eqb c.args.new.lack 0 (omega (arith, c.if-new-ne0.false))))
+    ∙ sym (ap₂ (λ a b. cond (a && b) (accept_event c.args.at.now c.args.new ∷ []) [])
+    (sym c.is_best.ensures ∙ c.if-not-is_best.false) (eq-eqb c.args.new.lack 0 (omega (arith, c.if-new-ne0.false))))
 
 pub returns-clause-told : goal.returns-clause-told
 returns-clause-told g c =
-    subst (λ es. OnOk c.note_all.result (Reported (λ w. (goal.Watch-dyn g (w.vtable, w.value)).after w.value) c.args.watch.now.items c.note_all.new.watch.items es)) (told_is g (goal.at.returns-clause-told g c).After-event_of) c.note_all.ensures.told
+    subst (λ es. OnOk c.note_all.result
+    (Reported (λ w. (goal.Watch-dyn g (w.vtable, w.value)).after w.value) c.args.watch.now.items c.note_all.new.watch.items es))
+    (told_is g (goal.at.returns-clause-told g c).After-event_of) c.note_all.ensures.told
 
 pub returns-clause-told_in_part : goal.returns-clause-told_in_part
 returns-clause-told_in_part g c =
-    subst (λ es. OnErr c.note_all.result (ReportedInPart (λ w. (goal.Watch-dyn g (w.vtable, w.value)).after w.value) c.args.watch.now.items c.note_all.new.watch.items es)) (told_is g (goal.at.returns-clause-told_in_part g c).After-event_of) c.note_all.ensures.told_in_part
+    subst (λ es. OnErr c.note_all.result
+    (ReportedInPart (λ w. (goal.Watch-dyn g (w.vtable, w.value)).after w.value) c.args.watch.now.items c.note_all.new.watch.items es))
+    (told_is g (goal.at.returns-clause-told_in_part g c).After-event_of) c.note_all.ensures.told_in_part

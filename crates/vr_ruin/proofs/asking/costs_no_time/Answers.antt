@@ -12,7 +12,8 @@ pub returns-then-get-ne0 : goal.returns-then-get-ne0
 returns-then-get-ne0 c =
     let dimension = dimension_at c.args.lookups.now.closed.model.now c.args.d in
     let same = ap (λ x. x.global_span_cost) (sym (c.get.ensures.value no_dimension)) in
-    let some = fails (int_eq dimension.global_span_cost (pos 0)) (λ t. c.if-get-ne0.true (ap (of_z w64) (same ∙ (Decides-int_eq dimension.global_span_cost (pos 0)).0 t))) in
+    let some = fails (int_eq dimension.global_span_cost (pos 0))
+    (λ t. c.if-get-ne0.true (ap (of_z w64) (same ∙ (Decides-int_eq dimension.global_span_cost (pos 0)).0 t))) in
     sym (ap (λ b. b && is_free dimension) some)
 
 pub returns : goal.returns

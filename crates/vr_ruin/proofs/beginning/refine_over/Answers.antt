@@ -19,22 +19,31 @@ returns-in_err-stepper-clause-told_in_part g c =
 
 pub returns-clause-answer : goal.returns-clause-answer
 returns-clause-answer g c =
-    subst (λ m. IfOk c.refine_from.result (λ answer. option_map answer_in answer ≡ option_map (answer_of m) (refined m c.args.routes.now.lists c.args.limit c.args.wish))) c.in_ok-stepper.ensures.model c.refine_from.ensures.answer
+    subst (λ m. IfOk c.refine_from.result
+    (λ answer. option_map answer_in answer ≡ option_map (answer_of m) (refined m c.args.routes.now.lists c.args.limit c.args.wish)))
+    c.in_ok-stepper.ensures.model c.refine_from.ensures.answer
 
 pub returns-clause-last : goal.returns-clause-last
 returns-clause-last g c =
-    subst (λ m. OnOk c.refine_from.result (c.refine_from.new.routes.lists ≡ (refined_search m c.args.routes.now.lists c.args.limit c.args.wish).outcome.last)) c.in_ok-stepper.ensures.model c.refine_from.ensures.last
+    subst
+    (λ m. OnOk c.refine_from.result (c.refine_from.new.routes.lists ≡ (refined_search m c.args.routes.now.lists c.args.limit c.args.wish).outcome.last))
+    c.in_ok-stepper.ensures.model c.refine_from.ensures.last
 
 pub returns-clause-told : goal.returns-clause-told
 returns-clause-told g c =
-    subst (λ m. OnOk c.refine_from.result (Reported (λ w. (goal.Watch-dyn g (w.vtable, w.value)).after w.value) c.args.watch.now.items c.refine_from.new.watch.items (refined_search m c.args.routes.now.lists c.args.limit c.args.wish).outcome.events)) c.in_ok-stepper.ensures.model c.refine_from.ensures.told
+    subst (λ m. OnOk c.refine_from.result
+    (Reported (λ w. (goal.Watch-dyn g (w.vtable, w.value)).after w.value) c.args.watch.now.items c.refine_from.new.watch.items
+    (refined_search m c.args.routes.now.lists c.args.limit c.args.wish).outcome.events)) c.in_ok-stepper.ensures.model c.refine_from.ensures.told
 
 pub returns-clause-told_in_part : goal.returns-clause-told_in_part
 returns-clause-told_in_part g c =
-    subst (λ m. OnErr c.refine_from.result (ReportedInPart (λ w. (goal.Watch-dyn g (w.vtable, w.value)).after w.value) c.args.watch.now.items c.refine_from.new.watch.items (refined_search m c.args.routes.now.lists c.args.limit c.args.wish).outcome.events)) c.in_ok-stepper.ensures.model c.refine_from.ensures.told_in_part
+    subst (λ m. OnErr c.refine_from.result
+    (ReportedInPart (λ w. (goal.Watch-dyn g (w.vtable, w.value)).after w.value) c.args.watch.now.items c.refine_from.new.watch.items
+    (refined_search m c.args.routes.now.lists c.args.limit c.args.wish).outcome.events)) c.in_ok-stepper.ensures.model c.refine_from.ensures.told_in_part
 
 pub returns-clause-routes : goal.returns-clause-routes
 returns-clause-routes g c = subst (λ m. AreRoutesOf m c.refine_from.new.routes) c.in_ok-stepper.ensures.model c.refine_from.ensures.routes
 
 pub returns-clause-valid : goal.returns-clause-valid
-returns-clause-valid g c = subst (λ m. IsTrue (is_valid m c.args.routes.now.lists) → IsTrue (is_valid m c.refine_from.new.routes.lists)) c.in_ok-stepper.ensures.model c.refine_from.ensures.valid
+returns-clause-valid g c = subst (λ m. IsTrue (is_valid m c.args.routes.now.lists) → IsTrue (is_valid m c.refine_from.new.routes.lists))
+    c.in_ok-stepper.ensures.model c.refine_from.ensures.valid

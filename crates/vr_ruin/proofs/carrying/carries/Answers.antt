@@ -18,7 +18,9 @@ returns c =
     let b = c.taken_by.ensures in
     let same : c.get-capacity.result.now ≡ number_at (dimension_at model d).capacities v =
     sym (c.get-capacity.ensures.value (pos 0)) ∙ ap (λ x. number_at x.capacities v) (sym (c.get-dimension.ensures.value no_dimension)) in
-    let capacity : to_z w64 (of_z w64 c.get-capacity.result.now) ≡ number_at (dimension_at model d).capacities v = omega (arith, ints, r.at_least, r.at_most, same) in
-    let load : to_z w64 (of_z w64 (to_z w64 (of_z w64 c.kept_load.result) +ℤ to_z w64 (of_z w64 c.taken_by.result))) ≡ load_of model d v c.args.list.now.nodes.now +ℤ total_by (taken model d v) (item_nodes c.args.item) =
+    let capacity : to_z w64 (of_z w64 c.get-capacity.result.now) ≡ number_at (dimension_at model d).capacities v =
+    omega (arith, ints, r.at_least, r.at_most, same) in
+    let load : to_z w64 (of_z w64 (to_z w64 (of_z w64 c.kept_load.result) +ℤ to_z w64 (of_z w64 c.taken_by.result)))
+    ≡ load_of model d v c.args.list.now.nodes.now +ℤ total_by (taken model d v) (item_nodes c.args.item) =
     omega (arith, ints, a.value, b.value, a.range.low, a.range.high, b.range.low, b.range.high) in
     ap₂ int_le load capacity

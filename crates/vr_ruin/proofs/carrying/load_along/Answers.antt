@@ -21,7 +21,8 @@ loop-k-preserved c =
     let model = c.args.list.now.closed.model.now in
     let v = c.args.list.now.vehicle in
     let small = taken-small model c.args.d v c.requires.load c.args.list.now.there in
-    next-load (taken model c.args.d v) small c.args.list.now.nodes.now c.requires.few c.loop-k.k c.loop-k-test.true (taken model c.args.d v (vehicle_at model v).start) (small.each (vehicle_at model v).start)
+    next-load (taken model c.args.d v) small c.args.list.now.nodes.now c.requires.few c.loop-k.k
+    c.loop-k-test.true (taken model c.args.d v (vehicle_at model v).start) (small.each (vehicle_at model v).start)
     (to_z w64 c.loop-k.load-bits) c.taken-load-in-loop-k.result c.loop-k.invariant c.taken-load-in-loop-k.ensures.value
 
 pub returns-clause-range : goal.returns-clause-range
@@ -31,4 +32,7 @@ returns-clause-range c =
     let small = taken-small model c.args.d v c.requires.load c.args.list.now.there in
     let u = so-far (taken model c.args.d v) small c.args.list.now.nodes.now c.requires.few c.loop-k.k in
     let s = small.each (vehicle_at model v).start in
-    record { low = omega (arith, ints, u.low, u.high, s.low, s.high, c.loop-k.invariant); high = omega (arith, ints, u.low, u.high, s.low, s.high, c.loop-k.invariant) }
+    record {
+      low = omega (arith, ints, u.low, u.high, s.low, s.high, c.loop-k.invariant);
+      high = omega (arith, ints, u.low, u.high, s.low, s.high, c.loop-k.invariant);
+    }

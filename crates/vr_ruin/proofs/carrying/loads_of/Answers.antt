@@ -10,5 +10,6 @@ loop-d-preserved c =
     let P = λ (d : ℕ) (told : Bool). told ≡ is_load c.args.closed.model.now d in
     rw c.in_ok-push.ensures.items (record {
       long = length-append c.loop-d.loads.items _ ∙ ap (λ n. n + 1) m.long;
-      each = λ d other low. each_push P c.loop-d.loads.items c.is_load.result m.each (subst (λ n. P n c.is_load.result) (sym m.long) c.is_load.ensures) d other low;
+      each = λ d other low. each_push P c.loop-d.loads.items c.is_load.result m.each
+          (subst (λ n. P n c.is_load.result) (sym m.long) c.is_load.ensures) d other low;
     })

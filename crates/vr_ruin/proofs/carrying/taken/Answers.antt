@@ -18,6 +18,7 @@ returns-clause-range c =
     let same : c.value.result ≡ taken model d v c.args.node =
     c.value.ensures.value
     ∙ (ap (λ e. number_at e.values c.args.node) (sym (c.get.ensures.value no_evaluator))
-    ∙ ap (λ x. number_at (slice_index_or x.evaluators c.get-evaluator.result.now no_evaluator).values c.args.node) (sym (c.get-dimension.ensures.value no_dimension)))
+    ∙ ap (λ x. number_at (slice_index_or x.evaluators c.get-evaluator.result.now no_evaluator).values c.args.node)
+    (sym (c.get-dimension.ensures.value no_dimension)))
     ∙ ap (λ e. value_of model d e c.args.node) number in
     record { low = omega (arith, ints, s.low, s.high, same); high = omega (arith, ints, s.low, s.high, same) }

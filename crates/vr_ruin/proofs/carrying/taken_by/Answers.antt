@@ -7,13 +7,16 @@ use Rattle.vr_rules.specs.Placing.{item_nodes}
 use Rattle.vr_ruin.proofs.carrying.taken_by.Goals as goal
 
 pub taken-requires-clause-node : goal.taken-requires-clause-node
-taken-requires-clause-node c = subst (λ item. All (λ node. node < c.args.list.now.closed.model.now.nodes) (item_nodes item)) c.in-Visit.is c.requires.nodes 0 0 (omega arith)
+taken-requires-clause-node c =
+    subst (λ item. All (λ node. node < c.args.list.now.closed.model.now.nodes) (item_nodes item)) c.in-Visit.is c.requires.nodes 0 0 (omega arith)
 
 pub taken-requires-in-PickupAndDelivery-clause-node : goal.taken-requires-in-PickupAndDelivery-clause-node
-taken-requires-in-PickupAndDelivery-clause-node c = subst (λ item. All (λ node. node < c.args.list.now.closed.model.now.nodes) (item_nodes item)) c.in-PickupAndDelivery.is c.requires.nodes 0 0 (omega arith)
+taken-requires-in-PickupAndDelivery-clause-node c =
+    subst (λ item. All (λ node. node < c.args.list.now.closed.model.now.nodes) (item_nodes item)) c.in-PickupAndDelivery.is c.requires.nodes 0 0 (omega arith)
 
 pub taken-requires-in-PickupAndDelivery-2-clause-node : goal.taken-requires-in-PickupAndDelivery-2-clause-node
-taken-requires-in-PickupAndDelivery-2-clause-node c = subst (λ item. All (λ node. node < c.args.list.now.closed.model.now.nodes) (item_nodes item)) c.in-PickupAndDelivery.is c.requires.nodes 1 0 (omega arith)
+taken-requires-in-PickupAndDelivery-2-clause-node c =
+    subst (λ item. All (λ node. node < c.args.list.now.closed.model.now.nodes) (item_nodes item)) c.in-PickupAndDelivery.is c.requires.nodes 1 0 (omega arith)
 
 pub returns-in-PickupAndDelivery-clause-value : goal.returns-in-PickupAndDelivery-clause-value
 returns-in-PickupAndDelivery-clause-value c =

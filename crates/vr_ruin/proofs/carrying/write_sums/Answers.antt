@@ -15,5 +15,6 @@ loop-d-preserved c =
     let read : new ≡ c.load_if.result = omega (arith, ints, r.low, r.high) in
     rw c.in_ok-push.ensures.ok (record {
       long = length-append c.loop-d.sums _ ∙ ap (λ n. n + 1) m.long;
-      each = λ d other low. each_push P c.loop-d.sums new m.each (subst (λ n. P n new) (sym m.long) (subst (P c.loop-d.d) (sym read) c.load_if.ensures)) d other low;
+      each = λ d other low. each_push P c.loop-d.sums new m.each
+          (subst (λ n. P n new) (sym m.long) (subst (P c.loop-d.d) (sym read) c.load_if.ensures)) d other low;
     })

@@ -20,7 +20,10 @@ loop-w-init c =
     record {
       trial = refl;
       cheapest = c.requires.best;
-      first = λ xs begun. begun ∙ ap (λ vs. first_in (sorted_by (rank_key t.model t.lists) (offers_of t.model t.lists (item_nodes c.args.item) (filter (is_asked t.lists c.args.are_used) vs) ++ xs))) (sym (none_left (n - 0) n (omega arith)));
+      first = λ xs begun. begun ∙ ap
+          (λ vs. first_in
+          (sorted_by (rank_key t.model t.lists) (offers_of t.model t.lists (item_nodes c.args.item) (filter (is_asked t.lists c.args.are_used) vs) ++ xs)))
+          (sym (none_left (n - 0) n (omega arith)));
     }
 
 pub loop-w-preserved : goal.loop-w-preserved
@@ -40,9 +43,12 @@ loop-w-preserved c =
       cheapest = subst (λ t. IfSome c.in_ok-best.best (IsCheapest t.model t.lists)) same c.in_ok-best.ensures.best;
       first = λ xs begun.
           subst (λ t. (xs : List Insertion) → option_map insertion_at c.loop-w.best ≡ first_in (sorted_by (rank_key t.model t.lists) xs)
-          → option_map insertion_at c.in_ok-best.best ≡ first_in (sorted_by (rank_key t.model t.lists) (offers_of t.model t.lists nodes (filter (is_asked t.lists c.args.are_used) (v ∷ [])) ++ xs))) same c.in_ok-best.ensures.first
+          → option_map insertion_at c.in_ok-best.best
+          ≡ first_in (sorted_by (rank_key t.model t.lists) (offers_of t.model t.lists nodes (filter (is_asked t.lists c.args.are_used) (v ∷ [])) ++ xs)))
+          same c.in_ok-best.ensures.first
           (offers_of t.model t.lists nodes (filter p (from_to (n - c.loop-w.w) n)) ++ xs) (c.loop-w.invariant.first xs begun)
-          ∙ ap (λ a. first_in (sorted_by (rank_key t.model t.lists) (offers_of t.model t.lists nodes (filter p (v ∷ [])) ++ (offers_of t.model t.lists nodes (filter p (from_to a n)) ++ xs)))) first
+          ∙ ap (λ a. first_in (sorted_by (rank_key t.model t.lists)
+          (offers_of t.model t.lists nodes (filter p (v ∷ [])) ++ (offers_of t.model t.lists nodes (filter p (from_to a n)) ++ xs)))) first
           ∙ ap (λ os. first_in (sorted_by (rank_key t.model t.lists) os)) (next_asked t.model t.lists c.know.ensures.built nodes p v n xs low)
           ∙ ap (λ a. first_in (sorted_by (rank_key t.model t.lists) (offers_of t.model t.lists nodes (filter p (from_to a n)) ++ xs))) last;
     }

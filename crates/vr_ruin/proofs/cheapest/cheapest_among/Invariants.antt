@@ -18,5 +18,6 @@ invariant-loop-w l = record {
   cheapest : IfSome l.best (IsCheapest l.fn.trial.model l.fn.trial.lists);
   first : (xs : List Insertion) → option_map insertion_at l.fn.best ≡ first_in (sorted_by (rank_key l.fn.trial.model l.fn.trial.lists) xs)
       → option_map insertion_at l.best ≡ first_in (sorted_by (rank_key l.fn.trial.model l.fn.trial.lists)
-      (offers_of l.fn.trial.model l.fn.trial.lists (item_nodes l.item) (filter (is_asked l.fn.trial.lists l.are_used) (from_to (length l.fn.trial.lists - l.w) (length l.fn.trial.lists))) ++ xs));
+      (offers_of l.fn.trial.model l.fn.trial.lists (item_nodes l.item)
+      (filter (is_asked l.fn.trial.lists l.are_used) (from_to (length l.fn.trial.lists - l.w) (length l.fn.trial.lists))) ++ xs));
 }

@@ -27,6 +27,10 @@ returns-clause-first c =
     let nodes = item_nodes c.args.item in
     let used = offers_of t.model t.lists nodes (used_vehicles t.lists) in
     let others = offers_of t.model t.lists nodes (empty_vehicles t.lists) in
-    IfOk-weaker c.cheapest_among-2.result _ _ (λ best first. narrow-none t.model t.lists used others c.in_ok-best.best best (c.in_ok-best.ensures.first [] refl) c.is_some.result c.is_some.ensures c.if-is_some.false
+    IfOk-weaker c.cheapest_among-2.result _ _
+    (λ best first. narrow-none t.model t.lists used others c.in_ok-best.best best
+    (c.in_ok-best.ensures.first [] refl) c.is_some.result c.is_some.ensures c.if-is_some.false
     (subst (λ t. (xs : List Insertion) → option_map insertion_at None ≡ first_in (sorted_by (rank_key t.model t.lists) xs)
-    → option_map insertion_at best ≡ first_in (sorted_by (rank_key t.model t.lists) (offers_of t.model t.lists nodes (filter (is_asked t.lists false) (vehicles t.lists)) ++ xs))) c.in_ok-best.ensures.trial first [] refl)) c.cheapest_among-2.ensures.first
+    → option_map insertion_at best
+    ≡ first_in (sorted_by (rank_key t.model t.lists) (offers_of t.model t.lists nodes (filter (is_asked t.lists false) (vehicles t.lists)) ++ xs)))
+    c.in_ok-best.ensures.trial first [] refl)) c.cheapest_among-2.ensures.first

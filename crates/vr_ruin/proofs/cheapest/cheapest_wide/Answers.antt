@@ -21,5 +21,7 @@ returns-clause-first c =
     let others = offers_of t.model t.lists nodes (empty_vehicles t.lists) in
     IfOk-weaker c.cheapest_among-2.result _ _ (λ best first. both-first t.model t.lists used others best
     (subst (λ t. (xs : List Insertion) → option_map insertion_at c.in_ok-best.best ≡ first_in (sorted_by (rank_key t.model t.lists) xs)
-    → option_map insertion_at best ≡ first_in (sorted_by (rank_key t.model t.lists) (offers_of t.model t.lists nodes (filter (is_asked t.lists true) (vehicles t.lists)) ++ xs))) c.in_ok-best.ensures.trial first (others ++ [])
+    → option_map insertion_at best
+    ≡ first_in (sorted_by (rank_key t.model t.lists) (offers_of t.model t.lists nodes (filter (is_asked t.lists true) (vehicles t.lists)) ++ xs)))
+    c.in_ok-best.ensures.trial first (others ++ [])
     (c.in_ok-best.ensures.first [] refl))) c.cheapest_among-2.ensures.first

@@ -17,13 +17,17 @@ use Rattle.vr_ruin.proofs.cheapest.take_offer.Goals.{In-Some, After-price_by_arc
 use Rattle.vr_ruin.proofs.cheapest.take_offer.Goals as goal
 
 -- what is found is the offer of the vehicle
-given : (c : In-Some) → (option_map insertion_of (Some c.in-Some.offer) ≡ offer c.args.trial.now.model c.args.trial.now.lists (item_nodes c.args.item) c.args.v) × AddsToArcs c.args.trial.now.model c.args.trial.now.lists c.in-Some.offer
+given : (c : In-Some)
+    → (option_map insertion_of (Some c.in-Some.offer) ≡ offer c.args.trial.now.model c.args.trial.now.lists (item_nodes c.args.item) c.args.v)
+    × AddsToArcs c.args.trial.now.model c.args.trial.now.lists c.in-Some.offer
 given c =
     let t = c.args.trial.now in
-    given-is c.in-Some.offer (subst (IsOfferWithin t.model t.lists (item_nodes c.args.item) c.args.v c.limit_beside-limit.result) c.in-Some.is c.in_ok-found.ensures.offer)
+    given-is c.in-Some.offer
+    (subst (IsOfferWithin t.model t.lists (item_nodes c.args.item) c.args.v c.limit_beside-limit.result) c.in-Some.is c.in_ok-found.ensures.offer)
 
 may : (c : In-Some) → MayBeMade c.args.trial.now.model c.args.trial.now.lists c.in-Some.offer
-may c = may_be_made c.args.trial.now.model c.args.trial.now.lists c.know.ensures.built c.know.ensures.well_formed c.args.item c.args.v c.in-Some.offer c.requires.item c.requires.vehicle (given c).0
+may c = may_be_made c.args.trial.now.model c.args.trial.now.lists c.know.ensures.built
+    c.know.ensures.well_formed c.args.item c.args.v c.in-Some.offer c.requires.item c.requires.vehicle (given c).0
 
 pub price_by_arcs-price-requires-clause-offer : goal.price_by_arcs-price-requires-clause-offer
 price_by_arcs-price-requires-clause-offer c =
@@ -48,8 +52,11 @@ is-cheapest c =
     let same : read c.price_by_arcs-price.result ≡ c.price_by_arcs-price.result = omega (arith, ints, range.low, range.high) in
     record {
       ranked = record {
-        may = may_be_made t.model t.lists c.know.ensures.built c.know.ensures.well_formed c.args.item c.args.v c.in-Some.offer c.requires.item c.requires.vehicle
-            (given-is c.in-Some.offer (subst (IsOfferWithin t.model t.lists (item_nodes c.args.item) c.args.v c.limit_beside-limit.result) c.in-Some.is c.in_ok-found.ensures.offer)).0;
+        may =
+            may_be_made t.model t.lists c.know.ensures.built c.know.ensures.well_formed c.args.item c.args.v c.in-Some.offer c.requires.item c.requires.vehicle
+            (given-is c.in-Some.offer
+            (subst (IsOfferWithin t.model t.lists (item_nodes c.args.item) c.args.v c.limit_beside-limit.result)
+            c.in-Some.is c.in_ok-found.ensures.offer)).0;
         price = same ∙ c.price_by_arcs-price.ensures.price ∙ ap (λ t. price_of t.model t.lists (insertion_of c.in-Some.offer)) c.in_ok-found.ensures.trial;
       };
       range = record { low = omega (arith, ints, range.low, range.high); high = omega (arith, ints, range.low, range.high) };
@@ -60,7 +67,8 @@ returns-in-None-clause-first c =
     let t = c.args.trial.now in
     let nodes = item_nodes c.args.item in
     none-first t.model t.lists c.requires.timeless nodes c.args.v c.requires.vehicle c.args.best c.requires.best
-    (subst (λ limit. IsOfferWithin t.model t.lists nodes c.args.v limit _) c.limit_beside-limit.ensures (subst (IsOfferWithin t.model t.lists nodes c.args.v c.limit_beside-limit.result) c.in-None.is c.in_ok-found.ensures.offer))
+    (subst (λ limit. IsOfferWithin t.model t.lists nodes c.args.v limit _) c.limit_beside-limit.ensures
+    (subst (IsOfferWithin t.model t.lists nodes c.args.v c.limit_beside-limit.result) c.in-None.is c.in_ok-found.ensures.offer))
 
 pub returns-in-Some-clause-best : goal.returns-in-Some-clause-best
 returns-in-Some-clause-best c =
@@ -74,4 +82,5 @@ returns-in-Some-clause-first c = λ xs before.
     let at = (goal.at.returns-in-Some-clause-first c).After-price_by_arcs-price in
     let here = (goal.at.returns-in-Some-clause-first c).In-Some in
     ap (λ p. option_map insertion_at (Some p)) c.cheaper.ensures
-    ∙ some-first t.model t.lists c.requires.timeless (item_nodes c.args.item) c.args.v c.requires.vehicle c.args.best (priced at) c.requires.best (is-cheapest at).ranked (given here).0 xs before
+    ∙ some-first t.model t.lists c.requires.timeless (item_nodes c.args.item) c.args.v c.requires.vehicle
+    c.args.best (priced at) c.requires.best (is-cheapest at).ranked (given here).0 xs before

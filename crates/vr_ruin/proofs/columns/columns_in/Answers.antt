@@ -10,5 +10,6 @@ loop-x-preserved c =
     let P = λ (x : ℕ) (column : List ℤ). IsColumn c.args.closed.model.now c.args.m x column in
     rw c.in_ok-push.ensures.items (record {
       long = length-append c.loop-x.columns.items _ ∙ ap (λ n. n + 1) m.long;
-      each = λ x other low. each_push P c.loop-x.columns.items c.in_ok-column_of.field-0 m.each (subst (λ n. P n c.in_ok-column_of.field-0) (sym m.long) c.in_ok-column_of.ensures) x other low;
+      each = λ x other low. each_push P c.loop-x.columns.items c.in_ok-column_of.field-0 m.each
+          (subst (λ n. P n c.in_ok-column_of.field-0) (sym m.long) c.in_ok-column_of.ensures) x other low;
     })

@@ -11,5 +11,6 @@ loop-m-preserved c =
     let P = λ (m : ℕ) (one : MatrixColumns). AreColumnsOf c.args.closed.model.now m one.columns.items in
     rw c.in_ok-push.ensures.items (record {
       long = length-append c.loop-m.all.items _ ∙ ap (λ n. n + 1) m.long;
-      each = λ k other low. each_push P c.loop-m.all.items c.in_ok-columns_in.field-0 m.each (subst (λ n. P n c.in_ok-columns_in.field-0) (sym m.long) c.in_ok-columns_in.ensures) k other low;
+      each = λ k other low. each_push P c.loop-m.all.items c.in_ok-columns_in.field-0 m.each
+          (subst (λ n. P n c.in_ok-columns_in.field-0) (sym m.long) c.in_ok-columns_in.ensures) k other low;
     })

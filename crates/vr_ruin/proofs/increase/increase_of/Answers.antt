@@ -11,7 +11,8 @@ returns-in-One-clause-value c =
     let model = c.args.list.now.closed.model.now in
     let v = c.args.list.now.vehicle in
     let list = c.args.list.now.nodes.now in
-    let fits : to_z w64 (of_z w64 c.visit_increase.result) ≡ c.visit_increase.result = omega (arith, ints, c.visit_increase.ensures.low, c.visit_increase.ensures.high) in
+    let fits : to_z w64 (of_z w64 c.visit_increase.result) ≡ c.visit_increase.result =
+    omega (arith, ints, c.visit_increase.ensures.low, c.visit_increase.ensures.high) in
     fits ∙ c.visit_increase.ensures.value
     ∙ increase-is model v list (One c.in-One.node c.in-One.t) (subst (AreWithin list) c.in-One.is c.requires.within)
     ∙ ap (λ p. route_cost model v (placed list p) -ℤ route_cost model v list) (sym c.in-One.is)
@@ -21,7 +22,8 @@ returns-in-Two-clause-value c =
     let model = c.args.list.now.closed.model.now in
     let v = c.args.list.now.vehicle in
     let list = c.args.list.now.nodes.now in
-    let fits : to_z w64 (of_z w64 c.pair_increase.result) ≡ c.pair_increase.result = omega (arith, ints, c.pair_increase.ensures.low, c.pair_increase.ensures.high) in
+    let fits : to_z w64 (of_z w64 c.pair_increase.result) ≡ c.pair_increase.result =
+    omega (arith, ints, c.pair_increase.ensures.low, c.pair_increase.ensures.high) in
     fits ∙ c.pair_increase.ensures.value
     ∙ increase-is model v list (Two c.in-Two.pickup c.in-Two.delivery c.in-Two.s c.in-Two.t) (subst (AreWithin list) c.in-Two.is c.requires.within)
     ∙ ap (λ p. route_cost model v (placed list p) -ℤ route_cost model v list) (sym c.in-Two.is)

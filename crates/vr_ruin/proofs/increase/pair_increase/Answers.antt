@@ -13,5 +13,6 @@ returns-then-s-t-clause-value c =
     let s : ℕ = c.args.s in
     let fits : to_z w64 (of_z w64 c.together.result) ≡ c.together.result = omega (arith, ints, c.together.ensures.low, c.together.ensures.high) in
     fits ∙ c.together.ensures.value
-    ∙ sym (ap (λ b. cond b (arc_cost model v (node_before model v list s) c.args.pickup +ℤ detour model v c.args.pickup c.args.delivery (node_after model v list s) (arc_cost_at model v list s))
+    ∙ sym (ap (λ b. cond b (arc_cost model v (node_before model v list s) c.args.pickup
+    +ℤ detour model v c.args.pickup c.args.delivery (node_after model v list s) (arc_cost_at model v list s))
     (visit_increase model v list c.args.pickup s +ℤ visit_increase model v list c.args.delivery c.args.t)) (eq-eqb s c.args.t c.if-s-t.true))

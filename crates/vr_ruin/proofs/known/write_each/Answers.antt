@@ -33,6 +33,8 @@ loop-d-preserved c =
     let Done = λ (d : ℕ) (rows : BothWays). is_load model d ≡ false → AreRowsIfUsed model d c.args.v c.args.lists.now.list.now rows in
     record {
       long = long ∙ m.long;
-      left = λ k other after low. get_or-set_other c.loop-d.rows d k new other (λ same. absurd (omega (arith, after, same))) ∙ m.left k other (omega (arith, after)) (omega (arith, long, low));
-      done = λ k other low lt. moved_more Done c.loop-d.rows d new within m.done (λ no_load. c.in_ok-write_in.ensures (c.requires.loads.each d _ c.loop-d-test.true ∙ no_load)) k other low lt;
+      left = λ k other after low. get_or-set_other c.loop-d.rows d k new other (λ same. absurd (omega (arith, after, same)))
+          ∙ m.left k other (omega (arith, after)) (omega (arith, long, low));
+      done = λ k other low lt. moved_more Done c.loop-d.rows d new within m.done
+          (λ no_load. c.in_ok-write_in.ensures (c.requires.loads.each d _ c.loop-d-test.true ∙ no_load)) k other low lt;
     }

@@ -10,5 +10,6 @@ abbrev pub invariant-loop-d : goal.invariant-loop-d
 invariant-loop-d l = record {
   long : length l.rows ≡ length l.initial.rows;
   left : (d : ℕ) (other : BothWays) → l.d ≤ d → d < length l.rows → slice_index_or l.rows d other ≡ slice_index_or l.initial.rows d other;
-  done : (d : ℕ) (other : BothWays) → d < l.d → d < length l.rows → is_load l.lookups.closed.model.now d ≡ false → AreRowsIfUsed l.lookups.closed.model.now d l.v l.lists.list.now (slice_index_or l.rows d other);
+  done : (d : ℕ) (other : BothWays) → d < l.d → d < length l.rows → is_load l.lookups.closed.model.now d ≡ false
+      → AreRowsIfUsed l.lookups.closed.model.now d l.v l.lists.list.now (slice_index_or l.rows d other);
 }

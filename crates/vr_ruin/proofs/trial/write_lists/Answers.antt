@@ -20,7 +20,8 @@ loop-w-preserved c =
       long = length-set c.loop-w.lists w new ∙ m.long;
       done = λ k other low lt. moved_more Done c.loop-w.lists w new within
           (λ j d j_low j_lt another. m.done j d j_low j_lt ∙ get_or_default target j d another (omega (arith, long, m.long, many, j_lt)))
-          (λ another. c.in_ok-write_list.ensures ∙ c.list_beside.ensures ∙ get_or_default target w _ another (omega (arith, long, m.long, many, within))) k other low lt other;
+          (λ another. c.in_ok-write_list.ensures ∙ c.list_beside.ensures ∙ get_or_default target w _ another (omega (arith, long, m.long, many, within))) k
+          other low lt other;
     }
 
 pub returns-clause-lists : goal.returns-clause-lists

@@ -7,5 +7,6 @@ use Rattle.vr_ruin.proofs.trial.write_lists.Given as goal
 abbrev pub invariant-loop-w : goal.invariant-loop-w
 invariant-loop-w l = record {
   long : length l.lists ≡ length l.initial.lists;
-  done : (w : ℕ) (other : List ℕ) → w < l.w → w < length l.lists → slice_index_or l.lists w other ≡ slice_index_or (with_route l.routes.lists l.v l.list) w other;
+  done : (w : ℕ) (other : List ℕ) → w < l.w → w < length l.lists
+      → slice_index_or l.lists w other ≡ slice_index_or (with_route l.routes.lists l.v l.list) w other;
 }

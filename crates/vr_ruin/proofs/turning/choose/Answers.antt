@@ -14,4 +14,5 @@ returns-clause-value c =
 pub returns-then-is_timeless-clause-value : goal.returns-then-is_timeless-clause-value
 returns-then-is_timeless-clause-value c =
     let t = c.args.trial.now in
-    IfOk-weaker c.cheapest.result _ _ (λ best first. first_chosen t.model c.args.wide t.lists (item_nodes c.args.item) c.args.r best first c.if-r-eq0.true) c.cheapest.ensures.first
+    IfOk-weaker c.cheapest.result _ _
+    (λ best first. first_chosen t.model c.args.wide t.lists (item_nodes c.args.item) c.args.r best first c.if-r-eq0.true) c.cheapest.ensures.first

@@ -12,7 +12,8 @@ taken c = subst (λ o. IfSome o (λ routes. routes.lists ≡ c.args.lists.now)) 
 -- .. and their marks tell whether these are valid
 decided : (c : After-is_complete) → c.is_complete.result ≡ is_valid c.args.lookups.now.closed.model.now c.args.lists.now
 decided c =
-    complete-is-valid c.args.lookups.now.closed.model.now c.args.lookups.now.closed.well_formed c.args.lists.now c.in-Some.routes.lists c.in_ok-marks.marks.items c.deref.result.now c.is_complete.result c.requires (taken c) c.in_ok-marks.ensures c.deref.ensures.value
+    complete-is-valid c.args.lookups.now.closed.model.now c.args.lookups.now.closed.well_formed c.args.lists.now c.in-Some.routes.lists
+    c.in_ok-marks.marks.items c.deref.result.now c.is_complete.result c.requires (taken c) c.in_ok-marks.ensures c.deref.ensures.value
     c.is_complete.ensures
 
 pub returns-then-is_complete-clause-lists : goal.returns-then-is_complete-clause-lists
@@ -22,4 +23,5 @@ returns-then-is_complete-clause-lists c =
 
 pub returns-else-is_complete-clause-lists : goal.returns-else-is_complete-clause-lists
 returns-else-is_complete-clause-lists c =
-    sym (ap (λ b. cond b (Some c.args.lists.now) None) (sym (decided (goal.at.returns-else-is_complete-clause-lists c).After-is_complete) ∙ c.if-is_complete.false))
+    sym (ap (λ b. cond b (Some c.args.lists.now) None)
+    (sym (decided (goal.at.returns-else-is_complete-clause-lists c).After-is_complete) ∙ c.if-is_complete.false))

@@ -8,7 +8,8 @@ use Rattle.vr_rules.proofs.costs.arcs_of_route.Goals as goal
 
 pub loop-node-preserved : goal.loop-node-preserved
 loop-node-preserved c =
-    let next = path_cost-drop c.args.closed.model.now c.args.vehicle c.loop-node.at c.get-ends.result.now.end c.args.list.now c.loop-node.node-index c.loop-node-test.true in
+    let next = path_cost-drop c.args.closed.model.now c.args.vehicle c.loop-node.at
+    c.get-ends.result.now.end c.args.list.now c.loop-node.node-index c.loop-node-test.true in
     let arc = c.arc_cost-total.ensures in
     let so_far = c.loop-node.invariant in
     record {
@@ -28,5 +29,20 @@ returns-clause-value c =
     let so_far = c.loop-node.invariant in
     let ended = path_cost-end model v c.loop-node.at last list c.loop-node.node-index c.loop-node-test.false in
     let used : route_cost model v list ≡ path_cost model v c.get-ends.result.now.start (list ++ last ∷ []) =
-    route_cost-used model v list (sym c.if-is_empty.ensures) ∙ ap (λ ends. path_cost model v ends.start (list ++ ends.end ∷ [])) (c.get-ends.ensures.value no_vehicle) in
-    omega (arith, ints, used, ended, arc.value, arc.not_negative, arc.bound, so_far.sum, so_far.low, so_far.high, c.loop-node-test.false, c.loop-node.auto.node-index-end, c.requires.few)
+    route_cost-used model v list (sym c.if-is_empty.ensures)
+    ∙ ap (λ ends. path_cost model v ends.start (list ++ ends.end ∷ [])) (c.get-ends.ensures.value no_vehicle) in
+    omega (
+      arith,
+      ints,
+      used,
+      ended,
+      arc.value,
+      arc.not_negative,
+      arc.bound,
+      so_far.sum,
+      so_far.low,
+      so_far.high,
+      c.loop-node-test.false,
+      c.loop-node.auto.node-index-end,
+      c.requires.few,
+    )

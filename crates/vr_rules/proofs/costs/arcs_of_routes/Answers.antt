@@ -27,7 +27,18 @@ loop-vehicle-preserved c =
     let value : c.arcs_of_route-total.result ≡ route_cost model v (route lists v) = arcs.value ∙ ap (route_cost model v) c.list.ensures.value in
     let few : v < 100 = omega (arith, c.loop-vehicle-test.true, are_lists-count model lists c.requires, c.args.closed.well_formed.number_of_vehicles.at_most) in
     record {
-      sum = omega (arith, ints, few, value, arcs.low, arcs.high, arcs_of_first-more model lists v, c.loop-vehicle.invariant.sum, c.loop-vehicle.invariant.low, c.loop-vehicle.invariant.high);
+      sum = omega (
+        arith,
+        ints,
+        few,
+        value,
+        arcs.low,
+        arcs.high,
+        arcs_of_first-more model lists v,
+        c.loop-vehicle.invariant.sum,
+        c.loop-vehicle.invariant.low,
+        c.loop-vehicle.invariant.high,
+      );
       low = omega (arith, ints, few, arcs.low, arcs.high, c.loop-vehicle.invariant.low, c.loop-vehicle.invariant.high);
       high = omega (arith, ints, few, arcs.low, arcs.high, c.loop-vehicle.invariant.low, c.loop-vehicle.invariant.high);
     }

@@ -10,5 +10,14 @@ loop-vehicle-preserved c =
     let fixed = c.fixed_of_route-total.ensures in
     let value = fixed.value ∙ ap (fixed_with c.args.closed.model.now c.loop-vehicle.vehicle) c.list.ensures.value in
     let more = fixed_of_first-more c.args.closed.model.now c.args.routes.now.lists c.loop-vehicle.vehicle in
-    let few : c.loop-vehicle.vehicle < 100 = omega (arith, c.loop-vehicle-test.true, are_lists-count c.args.closed.model.now c.args.routes.now.lists c.requires, c.args.closed.well_formed.number_of_vehicles.at_most) in
-    record { sum = omega (arith, ints, few, value, fixed.low, fixed.high, more, now.sum, now.low, now.high); low = omega (arith, ints, few, fixed, now.low, now.high); high = omega (arith, ints, few, fixed, now.low, now.high) }
+    let few : c.loop-vehicle.vehicle < 100 = omega (
+      arith,
+      c.loop-vehicle-test.true,
+      are_lists-count c.args.closed.model.now c.args.routes.now.lists c.requires,
+      c.args.closed.well_formed.number_of_vehicles.at_most,
+    ) in
+    record {
+      sum = omega (arith, ints, few, value, fixed.low, fixed.high, more, now.sum, now.low, now.high);
+      low = omega (arith, ints, few, fixed, now.low, now.high);
+      high = omega (arith, ints, few, fixed, now.low, now.high);
+    }

@@ -11,5 +11,6 @@ loop-d-preserved c =
     let P = λ (d : ℕ) (front : Front). IsFrontOf c.args.closed.model.now d c.args.v [] front in
     rw c.in_ok-push.ensures.items (record {
       long = length-append c.loop-d.fronts.items _ ∙ ap (λ n. n + 1) m.long;
-      each = λ d other lt. each_push P c.loop-d.fronts.items c.in_ok-at_start.field-0 m.each (subst (λ n. P n c.in_ok-at_start.field-0) (sym m.long) c.in_ok-at_start.ensures) d other lt;
+      each = λ d other lt. each_push P c.loop-d.fronts.items c.in_ok-at_start.field-0 m.each
+          (subst (λ n. P n c.in_ok-at_start.field-0) (sym m.long) c.in_ok-at_start.ensures) d other lt;
     })

@@ -15,5 +15,6 @@ loop-node-preserved c =
     let P = λ (node : ℕ) (set : List Run). IsTrue (is_visit model node) → IsStopSet model c.args.of.now.d c.args.of.now.v (Visit node) set in
     rw c.in_ok-push.ensures.items (record {
       long = length-append c.loop-node.sets.items _ ∙ ap (λ n. n + 1) m.long;
-      each = λ node other lt. each_push P c.loop-node.sets.items c.in_ok-visit_set.field-0 m.each (subst (λ n. P n c.in_ok-visit_set.field-0) (sym m.long) c.in_ok-visit_set.ensures) node other lt;
+      each = λ node other lt. each_push P c.loop-node.sets.items c.in_ok-visit_set.field-0 m.each
+          (subst (λ n. P n c.in_ok-visit_set.field-0) (sym m.long) c.in_ok-visit_set.ensures) node other lt;
     })

@@ -10,5 +10,6 @@ use Rattle.vr_rules.proofs.fronts.visit_sets.Given as goal
 abbrev pub invariant-loop-node : goal.invariant-loop-node
 invariant-loop-node l = record {
   long : length l.sets.items ≡ l.node;
-  each : (node : ℕ) (other : List Run) → node < length l.sets.items → IsTrue (is_visit l.of.closed.model.now node) → IsStopSet l.of.closed.model.now l.of.d l.of.v (Visit node) (slice_index_or l.sets.items node other);
+  each : (node : ℕ) (other : List Run) → node < length l.sets.items → IsTrue (is_visit l.of.closed.model.now node)
+      → IsStopSet l.of.closed.model.now l.of.d l.of.v (Visit node) (slice_index_or l.sets.items node other);
 }

@@ -15,12 +15,30 @@ global_cost-requires-clause-coefficient c =
 pub overflow_add-result-2 : goal.overflow_add-result-2
 overflow_add-result-2 c =
     let b = sums-bounded c.args.of.now c.in_ok-sums.sums c.in_ok-sums.ensures in
-    omega (arith, ints, c.args.of.now.lookups.now.closed.well_formed.number_of_dimensions, c.args.of.now.dimension, c.requires.soft_not_negative, c.requires.soft_bound, b.soft_not_negative, b.soft_bound)
+    omega (
+      arith,
+      ints,
+      c.args.of.now.lookups.now.closed.well_formed.number_of_dimensions,
+      c.args.of.now.dimension,
+      c.requires.soft_not_negative,
+      c.requires.soft_bound,
+      b.soft_not_negative,
+      b.soft_bound,
+    )
 
 pub overflow_add-result-3 : goal.overflow_add-result-3
 overflow_add-result-3 c =
     let b = sums-bounded c.args.of.now c.in_ok-sums.sums c.in_ok-sums.ensures in
-    omega (arith, ints, c.args.of.now.lookups.now.closed.well_formed.number_of_dimensions, c.args.of.now.dimension, c.requires.span_in_range.low, c.requires.span_in_range.high, b.span.low, b.span.high)
+    omega (
+      arith,
+      ints,
+      c.args.of.now.lookups.now.closed.well_formed.number_of_dimensions,
+      c.args.of.now.dimension,
+      c.requires.span_in_range.low,
+      c.requires.span_in_range.high,
+      b.span.low,
+      b.span.high,
+    )
 
 pub returns : goal.returns
 returns c =
@@ -32,7 +50,8 @@ returns c =
     let few = c.args.of.now.lookups.now.closed.well_formed.number_of_dimensions in
     let low = c.args.of.now.dimension in
     let g = c.global_cost.ensures in
-    let paid : c.global_cost.result ≡ (dimension_at model d).global_span_cost *ℤ length_of sums.extent = g.value ∙ ap (λ x. x.global_span_cost *ℤ length_of sums.extent) (sym (c.get-dimension.ensures.value no_dimension)) in
+    let paid : c.global_cost.result ≡ (dimension_at model d).global_span_cost *ℤ length_of sums.extent = g.value
+    ∙ ap (λ x. x.global_span_cost *ℤ length_of sums.extent) (sym (c.get-dimension.ensures.value no_dimension)) in
     AreTimed-more model c.args.of.now.routes.now.lists d c.args.timed _ sums c.global_cost.result low t c.in_ok-sums.ensures b paid g.range
     (omega (arith, ints, few, low, t.soft_not_negative, t.soft_bound, b.soft_not_negative, b.soft_bound))
     (omega (arith, ints, few, low, t.span_in_range.low, t.span_in_range.high, b.span.low, b.span.high))

@@ -14,13 +14,16 @@ use Rattle.vr_rules.proofs.SumLemmas.{AreSums-unused, AreSums-unpaid, AreSums-ta
 use Rattle.vr_rules.proofs.sums.with_vehicle.Goals as goal
 
 pub timing_of-requires-clause-visits : goal.timing_of-requires-clause-visits
-timing_of-requires-clause-visits c = ap (list_all (is_visit c.args.of.now.lookups.now.closed.model.now)) c.list-list.ensures.value ∙ route-visits c.args.of.now.lookups.now.closed.model.now c.args.of.now.routes.now.lists c.args.v c.args.of.now.lists
+timing_of-requires-clause-visits c = ap (list_all (is_visit c.args.of.now.lookups.now.closed.model.now)) c.list-list.ensures.value
+    ∙ route-visits c.args.of.now.lookups.now.closed.model.now c.args.of.now.routes.now.lists c.args.v c.args.of.now.lists
 
 pub timing_of-requires-clause-distinct : goal.timing_of-requires-clause-distinct
-timing_of-requires-clause-distinct c = ap is_distinct c.list-list.ensures.value ∙ route-distinct c.args.of.now.lookups.now.closed.model.now c.args.of.now.routes.now.lists c.args.v c.args.of.now.lists
+timing_of-requires-clause-distinct c = ap is_distinct c.list-list.ensures.value
+    ∙ route-distinct c.args.of.now.lookups.now.closed.model.now c.args.of.now.routes.now.lists c.args.v c.args.of.now.lists
 
 pub may_pay-requires-clause-visits : goal.may_pay-requires-clause-visits
-may_pay-requires-clause-visits c = ap (list_all (is_visit c.args.of.now.lookups.now.closed.model.now)) c.list-list.ensures.value ∙ route-visits c.args.of.now.lookups.now.closed.model.now c.args.of.now.routes.now.lists c.args.v c.args.of.now.lists
+may_pay-requires-clause-visits c = ap (list_all (is_visit c.args.of.now.lookups.now.closed.model.now)) c.list-list.ensures.value
+    ∙ route-visits c.args.of.now.lookups.now.closed.model.now c.args.of.now.routes.now.lists c.args.v c.args.of.now.lists
 
 pub returns-then-is_empty : goal.returns-then-is_empty
 returns-then-is_empty c =
@@ -34,7 +37,9 @@ returns-then-not-may_pay c =
     let v = c.args.v in
     AreSums-unpaid c.args.of.now.lookups.now.closed.model.now lists c.args.of.now.d v c.requires.vehicle c.args.sums c.requires.sums
     (not_empty (route lists v) (subst (λ list. 0 < length list) c.list-list.ensures.value (some_from_test _ _ c.if-is_empty.false c.is_empty.ensures)))
-    (subst (PaysNothingToo (dimension_at c.args.of.now.lookups.now.closed.model.now c.args.of.now.d) v) c.list-list.ensures.value (pays_nothing_too (dimension_at c.args.of.now.lookups.now.closed.model.now c.args.of.now.d) v c.list-list.result.now (sym c.may_pay.ensures ∙ c.if-not-may_pay.true)))
+    (subst (PaysNothingToo (dimension_at c.args.of.now.lookups.now.closed.model.now c.args.of.now.d) v)
+    c.list-list.ensures.value (pays_nothing_too (dimension_at c.args.of.now.lookups.now.closed.model.now c.args.of.now.d)
+    v c.list-list.result.now (sym c.may_pay.ensures ∙ c.if-not-may_pay.true)))
 
 pub with_timing-requires-clause-bound : goal.with_timing-requires-clause-bound
 with_timing-requires-clause-bound c =
@@ -44,7 +49,16 @@ with_timing-requires-clause-bound c =
     let visits = visits-bound model lists c.args.v c.args.of.now.lists in
     let b = c.requires.sums.soft_bound in
     let low = c.requires.vehicle in
-    omega (arith, ints, b, few, visits, low, c.args.of.now.lookups.now.closed.well_formed.number_of_nodes.1, c.args.of.now.lookups.now.closed.well_formed.number_of_vehicles.at_most)
+    omega (
+      arith,
+      ints,
+      b,
+      few,
+      visits,
+      low,
+      c.args.of.now.lookups.now.closed.well_formed.number_of_nodes.1,
+      c.args.of.now.lookups.now.closed.well_formed.number_of_vehicles.at_most,
+    )
 
 pub with_timing-requires-clause-span : goal.with_timing-requires-clause-span
 with_timing-requires-clause-span c =

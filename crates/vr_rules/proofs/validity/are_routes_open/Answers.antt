@@ -11,7 +11,8 @@ use Rattle.vr_rules.proofs.validity.are_routes_open.Goals as goal
 pub may_drive-requires-clause-visits : goal.may_drive-requires-clause-visits
 may_drive-requires-clause-visits c =
     let lists = c.args.of.now.routes.now.lists in
-    ap (list_all (is_visit c.args.of.now.lookups.now.closed.model.now)) c.list.ensures.value ∙ route-visits c.args.of.now.lookups.now.closed.model.now lists c.loop-v.v c.args.of.now.lists
+    ap (list_all (is_visit c.args.of.now.lookups.now.closed.model.now)) c.list.ensures.value
+    ∙ route-visits c.args.of.now.lookups.now.closed.model.now lists c.loop-v.v c.args.of.now.lists
 
 pub may_drive-requires-clause-distinct : goal.may_drive-requires-clause-distinct
 may_drive-requires-clause-distinct c =
@@ -23,14 +24,17 @@ returns-then-not-branch c =
     let model = c.args.of.now.lookups.now.closed.model.now in
     let lists = c.args.of.now.routes.now.lists in
     let v : ℕ = c.loop-v.v in
-    sym (one_fails (λ v. is_route_open model v (route lists v)) (length lists) v (omega arith) (sym (ap (is_route_open model v) c.list.ensures.value) ∙ sym c.in_ok-may_drive.ensures ∙ c.if-not-branch.true))
+    sym (one_fails (λ v. is_route_open model v (route lists v)) (length lists) v (omega arith)
+    (sym (ap (is_route_open model v) c.list.ensures.value) ∙ sym c.in_ok-may_drive.ensures ∙ c.if-not-branch.true))
 
 pub loop-v-preserved : goal.loop-v-preserved
 loop-v-preserved c =
     let model = c.args.of.now.lookups.now.closed.model.now in
     let lists = c.args.of.now.routes.now.lists in
     let v : ℕ = c.loop-v.v in
-    below_more (λ v. is_route_open model v (route lists v) ≡ true) v c.loop-v.invariant (sym (ap (is_route_open model v) c.list.ensures.value) ∙ sym c.in_ok-may_drive.ensures ∙ c.if-not-branch.false)
+    below_more (λ v. is_route_open model v (route lists v) ≡ true) v c.loop-v.invariant
+    (sym (ap (is_route_open model v) c.list.ensures.value) ∙ sym c.in_ok-may_drive.ensures ∙ c.if-not-branch.false)
 
 pub returns : goal.returns
-returns c = sym (all_pass_below (λ v. is_route_open c.args.of.now.lookups.now.closed.model.now v (route c.args.of.now.routes.now.lists v)) (length c.args.of.now.routes.now.lists) (λ v low. c.loop-v.invariant v (omega (arith, low))))
+returns c = sym (all_pass_below (λ v. is_route_open c.args.of.now.lookups.now.closed.model.now v (route c.args.of.now.routes.now.lists v))
+    (length c.args.of.now.routes.now.lists) (λ v low. c.loop-v.invariant v (omega (arith, low))))

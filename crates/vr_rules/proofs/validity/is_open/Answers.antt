@@ -7,4 +7,5 @@ pub returns-then-not-groups_pass : goal.returns-then-not-groups_pass
 returns-then-not-groups_pass c = sym (closed_by_groups c.args.of.now (sym c.groups_pass.ensures ∙ c.if-not-groups_pass.true))
 
 pub returns : goal.returns
-returns c = subst (λ y. IfOk c.are_routes_open.result (λ answer. answer ≡ y)) (open_by_routes c.args.of.now (sym c.groups_pass.ensures ∙ c.if-not-groups_pass.false)) c.are_routes_open.ensures
+returns c = subst (λ y. IfOk c.are_routes_open.result (λ answer. answer ≡ y))
+    (open_by_routes c.args.of.now (sym c.groups_pass.ensures ∙ c.if-not-groups_pass.false)) c.are_routes_open.ensures

@@ -7,4 +7,5 @@ pub returns-then-not-is_complete : goal.returns-then-not-is_complete
 returns-then-not-is_complete c = sym (invalid_where_incomplete c.args.of.now (sym c.is_complete.ensures ∙ c.if-not-is_complete.true))
 
 pub returns : goal.returns
-returns c = subst (λ y. IfOk c.is_open.result (λ answer. answer ≡ y)) (valid_where_complete c.args.of.now (sym c.is_complete.ensures ∙ c.if-not-is_complete.false)) c.is_open.ensures
+returns c = subst (λ y. IfOk c.is_open.result (λ answer. answer ≡ y))
+    (valid_where_complete c.args.of.now (sym c.is_complete.ensures ∙ c.if-not-is_complete.false)) c.is_open.ensures

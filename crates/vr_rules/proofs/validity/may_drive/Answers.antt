@@ -18,4 +18,5 @@ returns-then-is_same c =
     let built = subst (λ others. IfSome others (λ routes. AreBuilt model routes.now.lists)) c.in-Some.is c.requires.others in
     let n = built-count model c.in-Some.routes.now.lists built in
     let same = sym c.list.ensures.value ∙ c.is_same.ensures c.if-is_same.true in
-    sym (ap (is_route_open model c.args.v) (sym same) ∙ open-route model c.in-Some.routes.now.lists c.args.v built.are_open (omega (arith, n, c.requires.vehicle)))
+    sym (ap (is_route_open model c.args.v) (sym same)
+    ∙ open-route model c.in-Some.routes.now.lists c.args.v built.are_open (omega (arith, n, c.requires.vehicle)))

@@ -14,11 +14,14 @@ pub valid-requires-clause-lists : goal.valid-requires-clause-lists
 valid-requires-clause-lists c =
     let model = c.args.closed.model.now in
     let lists : List (List ℕ) = c.args.routes.now.lists in
-    let after : c.commit.new.self.lists ≡ apply model lists c.requires.moved.0 = c.commit.ensures.lists ∙ (ap (λ (r : Tours). changed r.lists c.args.change.now) c.in_ok-after.ensures ∙ c.requires.moved.2.lists_are) in
-    subst (λ ls. IsTrue (are_lists model ls)) (sym after) (moves_keep_lists model c.args.closed.well_formed lists c.requires.moved.0 (are-lists model lists c.requires.valid) c.requires.moved.1)
+    let after : c.commit.new.self.lists ≡ apply model lists c.requires.moved.0 = c.commit.ensures.lists
+    ∙ (ap (λ (r : Tours). changed r.lists c.args.change.now) c.in_ok-after.ensures ∙ c.requires.moved.2.lists_are) in
+    subst (λ ls. IsTrue (are_lists model ls)) (sym after)
+    (moves_keep_lists model c.args.closed.well_formed lists c.requires.moved.0 (are-lists model lists c.requires.valid) c.requires.moved.1)
 
 pub returns : goal.returns
 returns c =
     let model = c.args.closed.model.now in
     let after = c.commit.ensures.lists ∙ ap (λ (r : Tours). changed r.lists c.args.change.now) c.in_ok-after.ensures in
-    IfOk-weaker c.valid.result _ (λ stays. stays ≡ is_valid model (changed c.args.routes.now.lists c.args.change.now)) (λ _ same. same ∙ ap (is_valid model) after) c.valid.ensures
+    IfOk-weaker c.valid.result _ (λ stays. stays ≡ is_valid model (changed c.args.routes.now.lists c.args.change.now))
+    (λ _ same. same ∙ ap (is_valid model) after) c.valid.ensures

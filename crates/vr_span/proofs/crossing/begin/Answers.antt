@@ -20,4 +20,5 @@ pub returns-clause-pieces : goal.returns-clause-pieces
 returns-clause-pieces c =
     let done = c.loop-k-test.false in
     let all : length c.args.allowed.now ≤ c.loop-k.k = omega (arith, done, c.len-runs.ensures.value) in
-    subst ArePieces (sym (c.loop-k.invariant ∙ ap (map begin_of) (take_all c.loop-k.k c.args.allowed.now all))) (begin_rises c.args.allowed.now c.len-runs.ensures.normal c.requires)
+    subst ArePieces (sym (c.loop-k.invariant ∙ ap (map begin_of) (take_all c.loop-k.k c.args.allowed.now all)))
+    (begin_rises c.args.allowed.now c.len-runs.ensures.normal c.requires)

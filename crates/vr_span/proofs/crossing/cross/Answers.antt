@@ -32,11 +32,13 @@ near c = near_moved c.args.hop c.requires.hop c.args.from.now c.args.next.now c.
 
 -- the run that is looked at
 run : (c : After-run-bound) → IsIn (pos 0) horizon c.run-bound.result.lo × IsIn (pos 0) horizon c.run-bound.result.hi
-run c = run_range c.args.hop c.requires.hop c.args.from.now c.args.next.now c.pass.out c.pass.left.now c.pass.k c.pass.invariant (is_left (goal.at.After-run-bound c).After-over-reached) c.run-bound.result c.run-bound.ensures
+run c = run_range c.args.hop c.requires.hop c.args.from.now c.args.next.now c.pass.out c.pass.left.now c.pass.k
+    c.pass.invariant (is_left (goal.at.After-run-bound c).After-over-reached) c.run-bound.result c.run-bound.ensures
 
 -- what is put behind the others
 new : (c : In_ok-put) → c.put.new.out ≡ c.pass.out ++ piece_if_any (within_run c.run-bound.result (first_moved c.args.hop c.pass.left.now))
-new c = c.in_ok-put.ensures ∙ ap (λ p. c.pass.out ++ piece_if_any p) (c.within.ensures ∙ ap (within_run c.run-bound.result) (reached (goal.at.In_ok-put c).After-over-reached))
+new c = c.in_ok-put.ensures
+    ∙ ap (λ p. c.pass.out ++ piece_if_any p) (c.within.ensures ∙ ap (within_run c.run-bound.result) (reached (goal.at.In_ok-put c).After-over-reached))
 
 pub within-requires-clause-near : goal.within-requires-clause-near
 within-requires-clause-near c = let at = (goal.at.within-requires-clause-near c).After-over-reached in subst IsNear (sym (reached at)) (near at)
@@ -58,7 +60,9 @@ pass-preserved-then-reached-bound c =
     let moved_near = (near here.After-over-reached).hi in
     let bound = (run here.After-run-bound).1 in
     let test = c.if-reached-bound.true in
-    take_left c.args.hop c.requires.hop c.args.from.now c.args.next.now c.pass.out c.pass.left.now c.pass.k c.pass.invariant (is_left here.After-over-reached) c.run-bound.result c.run-bound.ensures c.put.new.out (new here.In_ok-put) (omega (arith, ints, test, hi, moved_near, bound))
+    take_left c.args.hop c.requires.hop c.args.from.now c.args.next.now c.pass.out c.pass.left.now
+    c.pass.k c.pass.invariant (is_left here.After-over-reached) c.run-bound.result c.run-bound.ensures
+    c.put.new.out (new here.In_ok-put) (omega (arith, ints, test, hi, moved_near, bound))
 
 pub pass-preserved : goal.pass-preserved
 pass-preserved c =
@@ -67,13 +71,17 @@ pass-preserved c =
     let moved_near = (near here.After-over-reached).hi in
     let bound = (run here.After-run-bound).1 in
     let test = c.if-reached-bound.false in
-    take_right c.args.hop c.requires.hop c.args.from.now c.args.next.now c.pass.out c.pass.left.now c.pass.k c.pass.invariant (is_left here.After-over-reached) c.run-bound.result c.run-bound.ensures c.put.new.out (new here.In_ok-put) (omega (arith, ints, test, hi, moved_near, bound))
+    take_right c.args.hop c.requires.hop c.args.from.now c.args.next.now c.pass.out c.pass.left.now
+    c.pass.k c.pass.invariant (is_left here.After-over-reached) c.run-bound.result c.run-bound.ensures
+    c.put.new.out (new here.In_ok-put) (omega (arith, ints, test, hi, moved_near, bound))
 
 pub returns-else-k-runs-clause-exact : goal.returns-else-k-runs-clause-exact
 returns-else-k-runs-clause-exact c =
     let done = c.if-k-runs.false in
-    pass_ends c.args.hop c.requires.hop c.args.from.now c.args.next.now c.pass.out c.pass.left.now c.pass.k c.requires.from c.pass.invariant (inr (omega (arith, done, c.len-runs.ensures.value)))
+    pass_ends c.args.hop c.requires.hop c.args.from.now c.args.next.now c.pass.out c.pass.left.now
+    c.pass.k c.requires.from c.pass.invariant (inr (omega (arith, done, c.len-runs.ensures.value)))
 
 pub returns-after-pass-clause-exact : goal.returns-after-pass-clause-exact
 returns-after-pass-clause-exact c =
-    pass_ends c.args.hop c.requires.hop c.args.from.now c.args.next.now c.pass.out c.pass.left.now c.pass.k c.requires.from c.pass.invariant (inl (none_from_test _ _ c.pass-test.false c.is_empty.ensures))
+    pass_ends c.args.hop c.requires.hop c.args.from.now c.args.next.now c.pass.out c.pass.left.now c.pass.k
+    c.requires.from c.pass.invariant (inl (none_from_test _ _ c.pass-test.false c.is_empty.ensures))

@@ -14,4 +14,6 @@ returns c =
     let from = subst (λ from. IsPinnedOf from c.len.result (to_z w64 (of_z w64 c.args.end)) c.pin.new.line) c.in_ok-narrow.ensures c.in_ok-pin.ensures.exact in
     let ending = subst (λ x. IsPinnedOf line c.len.result x c.pin.new.line) end_same from in
     let narrow = subst (λ x. IsPinnedOf c.pin.new.line 0 x c.pin-2.new.line) start_same c.in_ok-pin-2.ensures.exact in
-    IfOk-weaker _ _ _ (between_told lines_stand_for_theirs line c.requires.sound c.args.start c.args.end c.len.result c.len.ensures c.pin.new.line c.pin-2.new.line ending narrow) c.schedule.ensures.chosen
+    IfOk-weaker _ _ _
+    (between_told lines_stand_for_theirs line c.requires.sound c.args.start c.args.end c.len.result
+    c.len.ensures c.pin.new.line c.pin-2.new.line ending narrow) c.schedule.ensures.chosen

@@ -13,16 +13,20 @@ use Rattle.vr_span.proofs.least.shortest_way.Goals as goal
 pub returns-clause-some : goal.returns-clause-some
 returns-clause-some c =
     let shortest = subst (λ pieces. IfSome c.shortest.result (IsShortest pieces)) c.as_slice.ensures c.shortest.ensures.some in
-    way_told lines_stand_for_theirs c.args.line.now c.requires.sound cumul_where_levels_meet reached_at_end c.requires.no_breaks c.in_ok-pieces.pieces c.in_ok-pieces.ensures.told
+    way_told lines_stand_for_theirs c.args.line.now c.requires.sound cumul_where_levels_meet
+    reached_at_end c.requires.no_breaks c.in_ok-pieces.pieces c.in_ok-pieces.ensures.told
     c.shortest.result shortest
 
 pub returns-clause-none : goal.returns-clause-none
 returns-clause-none c = λ none.
-    none_told lines_stand_for_theirs c.args.line.now c.requires.sound cumul_where_levels_meet reached_at_end c.requires.no_breaks c.in_ok-pieces.pieces c.in_ok-pieces.ensures.told
+    none_told lines_stand_for_theirs c.args.line.now c.requires.sound cumul_where_levels_meet
+    reached_at_end c.requires.no_breaks c.in_ok-pieces.pieces c.in_ok-pieces.ensures.told
     (sym c.as_slice.ensures ∙ c.shortest.ensures.none none)
 
 pub returns-clause-cumul : goal.returns-clause-cumul
-returns-clause-cumul c = some_weaker c.shortest.result (IsShortest c.as_slice.result.now) (λ way. IsIn (pos 0) horizon way.lo) (λ way is. is.ends.cumul) c.shortest.ensures.some
+returns-clause-cumul c =
+    some_weaker c.shortest.result (IsShortest c.as_slice.result.now) (λ way. IsIn (pos 0) horizon way.lo) (λ way is. is.ends.cumul) c.shortest.ensures.some
 
 pub returns-clause-start : goal.returns-clause-start
-returns-clause-start c = some_weaker c.shortest.result (IsShortest c.as_slice.result.now) (λ way. IsIn (pos 0) horizon way.first) (λ way is. is.ends.start) c.shortest.ensures.some
+returns-clause-start c =
+    some_weaker c.shortest.result (IsShortest c.as_slice.result.now) (λ way. IsIn (pos 0) horizon way.first) (λ way is. is.ends.start) c.shortest.ensures.some

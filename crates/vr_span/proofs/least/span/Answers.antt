@@ -30,31 +30,37 @@ between c =
     let first = start c in
     let lo_same : to_z w64 (of_z w64 way.lo) ≡ way.lo = omega (arith, ints, last) in
     let first_same : to_z w64 (of_z w64 way.first) ≡ way.first = omega (arith, ints, first) in
-    subst (λ e. IsChosenBetween line way.first e c.in_ok-plan.field-0) lo_same (subst (λ s. IsChosenBetween line s (to_z w64 (of_z w64 way.lo)) c.in_ok-plan.field-0) first_same c.in_ok-plan.ensures)
+    subst (λ e. IsChosenBetween line way.first e c.in_ok-plan.field-0) lo_same
+    (subst (λ s. IsChosenBetween line s (to_z w64 (of_z w64 way.lo)) c.in_ok-plan.field-0) first_same c.in_ok-plan.ensures)
 
 -- the span is read as it is
-width : (c : In_ok-plan) → to_z w64 (of_z w64 (to_z w64 (of_z w64 c.in-Some.way.lo) -ℤ to_z w64 (of_z w64 c.in-Some.way.first))) ≡ c.in-Some.way.lo -ℤ c.in-Some.way.first
+width : (c : In_ok-plan)
+    → to_z w64 (of_z w64 (to_z w64 (of_z w64 c.in-Some.way.lo) -ℤ to_z w64 (of_z w64 c.in-Some.way.first))) ≡ c.in-Some.way.lo -ℤ c.in-Some.way.first
 width c = let last = cumul c in let first = start c in omega (arith, ints, last, first)
 
 pub returns-in_default-2-clause-none : goal.returns-in_default-2-clause-none
 returns-in_default-2-clause-none c =
     let at = (goal.at.returns-in_default-2-clause-none c).In_ok-plan in
-    λ nothing. never_none lines_stand_for_theirs chosen_is_least chosen_where_feasible c.args.line.now c.requires.sound c.requires.no_breaks c.in-Some.way (way_is at) c.in_ok-plan.field-0 (between at) (search rules)
+    λ nothing. never_none lines_stand_for_theirs chosen_is_least chosen_where_feasible c.args.line.now
+    c.requires.sound c.requires.no_breaks c.in-Some.way (way_is at) c.in_ok-plan.field-0 (between at) (search rules)
 
 pub returns-clause-reached : goal.returns-clause-reached
 returns-clause-reached c =
     let at = (goal.at.returns-clause-reached c).In_ok-plan in
     let found = subst (IsChosenBetween c.args.line.now c.in-Some.way.first c.in-Some.way.lo) c.in-Some-2.is (between at) in
-    reached_told lines_stand_for_theirs chosen_is_least chosen_where_feasible c.args.line.now c.requires.sound c.requires.no_breaks c.in-Some.way (way_is at) _ (width at) found
+    reached_told lines_stand_for_theirs chosen_is_least chosen_where_feasible c.args.line.now
+    c.requires.sound c.requires.no_breaks c.in-Some.way (way_is at) _ (width at) found
 
 pub returns-clause-least : goal.returns-clause-least
 returns-clause-least c =
     let at = (goal.at.returns-clause-least c).In_ok-plan in
     let found = subst (IsChosenBetween c.args.line.now c.in-Some.way.first c.in-Some.way.lo) c.in-Some-2.is (between at) in
-    least_told lines_stand_for_theirs chosen_is_least chosen_where_feasible c.args.line.now c.requires.sound c.requires.no_breaks c.in-Some.way (way_is at) _ (width at) found
+    least_told lines_stand_for_theirs chosen_is_least chosen_where_feasible c.args.line.now
+    c.requires.sound c.requires.no_breaks c.in-Some.way (way_is at) _ (width at) found
 
 pub returns-clause-first : goal.returns-clause-first
 returns-clause-first c =
     let at = (goal.at.returns-clause-first c).In_ok-plan in
     let found = subst (IsChosenBetween c.args.line.now c.in-Some.way.first c.in-Some.way.lo) c.in-Some-2.is (between at) in
-    first_told lines_stand_for_theirs chosen_is_least chosen_where_feasible c.args.line.now c.requires.sound c.requires.no_breaks c.in-Some.way (way_is at) _ (width at) found
+    first_told lines_stand_for_theirs chosen_is_least chosen_where_feasible c.args.line.now
+    c.requires.sound c.requires.no_breaks c.in-Some.way (way_is at) _ (width at) found

@@ -16,5 +16,6 @@ returns-clause-exact c =
 pub returns-clause-levels : goal.returns-clause-levels
 returns-clause-levels c =
     let none = no_breaks c.args.breaks.now c.breaks.inside.rows.items c.is_empty.result c.if-not-is_empty.false c.is_empty.ensures c.breaks.view_is in
-    crossed_are c.args.way c.args.from.now c.args.hop c.args.within.now c.args.breaks.now (c.write_plain.new.set ∷ c.empty.new.sets.items) (returns-clause-exact c)
+    crossed_are c.args.way c.args.from.now c.args.hop c.args.within.now c.args.breaks.now
+    (c.write_plain.new.set ∷ c.empty.new.sets.items) (returns-clause-exact c)
     (ap suc (ap length c.empty.ensures ∙ sym (ap length none))) c.requires.cumuls

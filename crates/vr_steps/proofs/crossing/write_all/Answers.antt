@@ -9,7 +9,8 @@ returns-clause-exact c =
     let first = c.write_level.new.set in
     let more = c.write_further.new.sets.items in
     let rows_is = c.as_slice-rows.ensures.value ∙ c.breaks.view_is in
-    subst (λ rows. AreCrossedBy c.args.way c.args.from.now c.args.hop c.args.within.now rows (first ∷ more)) rows_is (crossed_by c.args.way c.args.from.now c.args.hop c.args.within.now c.as_slice-rows.result.now first more
+    subst (λ rows. AreCrossedBy c.args.way c.args.from.now c.args.hop c.args.within.now rows (first ∷ more)) rows_is
+    (crossed_by c.args.way c.args.from.now c.args.hop c.args.within.now c.as_slice-rows.result.now first more
     (answered c.write_level.result c.is_err-2.result _ c.if-is_err-2.false c.is_err-2.ensures.value c.write_level.ensures)
     (answered c.write_further.result c.is_err-3.result _ c.if-is_err-3.false c.is_err-3.ensures.value c.write_further.ensures.each))
 
@@ -19,4 +20,5 @@ returns-clause-levels c =
     let more = c.write_further.new.sets.items in
     let rows_is = c.as_slice-rows.ensures.value ∙ c.breaks.view_is in
     let long = answered c.write_further.result c.is_err-3.result _ c.if-is_err-3.false c.is_err-3.ensures.value c.write_further.ensures.long in
-    crossed_are c.args.way c.args.from.now c.args.hop c.args.within.now c.args.breaks.now (first ∷ more) (returns-clause-exact c) (ap suc (long ∙ ap length rows_is)) c.requires.cumuls
+    crossed_are c.args.way c.args.from.now c.args.hop c.args.within.now c.args.breaks.now
+    (first ∷ more) (returns-clause-exact c) (ap suc (long ∙ ap length rows_is)) c.requires.cumuls

@@ -10,7 +10,9 @@ use Rattle.vr_steps.proofs.Swaps.{goes, weighs_five}
 use Rattle.vr_steps.proofs.weights.swap_weighs_five.Goals as goal
 
 pub returns-clause-weight : goal.returns-clause-weight
-returns-clause-weight c = weighs_five lines_are_sound reached_at_start reached_by_crossing reached_at_end end_reached_by_crossing arc_alone reached_as_tested end_reached_as_tested runs_are_counted
+returns-clause-weight c = weighs_five lines_are_sound reached_at_start reached_by_crossing reached_at_end
+    end_reached_by_crossing arc_alone reached_as_tested end_reached_as_tested runs_are_counted
 
 pub returns-clause-feasible : goal.returns-clause-feasible
-returns-clause-feasible c = goes lines_are_sound reached_at_start reached_by_crossing reached_at_end end_reached_by_crossing arc_alone feasible_where_levels_meet chosen_where_feasible
+returns-clause-feasible c =
+    goes lines_are_sound reached_at_start reached_by_crossing reached_at_end end_reached_by_crossing arc_alone feasible_where_levels_meet chosen_where_feasible

@@ -10,7 +10,8 @@ loop-node-preserved c =
     let Next : List ItemKey → Type 0 = λ keys. AreKeysSoFar model (c.loop-node.node + 1) keys in
     elim c.match-visit_key.branch [
       | in-Some+in_ok-push-in-Some w ↦
-          subst Next (sym (w.keys-is ∙ w.in_ok-push-in-Some.ensures.ok)) (keys_put model c.loop-node.node c.loop-node.keys w.in-Some.key c.loop-node.invariant w.in-Some.ensures)
+          subst Next (sym (w.keys-is ∙ w.in_ok-push-in-Some.ensures.ok))
+          (keys_put model c.loop-node.node c.loop-node.keys w.in-Some.key c.loop-node.invariant w.in-Some.ensures)
       | in-None w ↦
           subst Next (sym w.keys-is) (keys_left model c.loop-node.node c.loop-node.keys c.loop-node.invariant w.in-None.ensures)
     ]

@@ -15,9 +15,13 @@ returns-clause-ends g c =
     let here = c.open-round.result.routes.now in
     let model = c.args.model.now in
     let rest = c.args.rest in
-    subst (λ (s : State). IfOk told (λ ended. ended ≡ tabu_round_end model c.args.routes.now.lists (round_of model (tabus_of s.tabus) s.best.routes.lists c.args.routes.now.lists rest))) c.open-round.ensures.state
-    (subst (λ (r : Tours). IfOk told (λ ended. ended ≡ tabu_round_end model r.lists (round_of model (tabus_of at.tabus) at.best.routes.lists r.lists rest))) c.open-round.ensures.routes
-    (subst (λ (m : Model). IfOk told (λ ended. ended ≡ tabu_round_end m here.lists (round_of m (tabus_of at.tabus) at.best.routes.lists here.lists rest))) c.open-round.ensures.model c.run.ensures.ends))
+    subst (λ (s : State). IfOk told
+    (λ ended. ended ≡ tabu_round_end model c.args.routes.now.lists (round_of model (tabus_of s.tabus) s.best.routes.lists c.args.routes.now.lists rest)))
+    c.open-round.ensures.state
+    (subst (λ (r : Tours). IfOk told (λ ended. ended ≡ tabu_round_end model r.lists (round_of model (tabus_of at.tabus) at.best.routes.lists r.lists rest)))
+    c.open-round.ensures.routes
+    (subst (λ (m : Model). IfOk told (λ ended. ended ≡ tabu_round_end m here.lists (round_of m (tabus_of at.tabus) at.best.routes.lists here.lists rest)))
+    c.open-round.ensures.model c.run.ensures.ends))
 
 pub returns-clause-kept : goal.returns-clause-kept
 returns-clause-kept g c =

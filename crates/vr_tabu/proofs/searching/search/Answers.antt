@@ -17,20 +17,40 @@ use Rattle.vr_tabu.proofs.searching.search.Goals.{In_ok-stop}
 use Rattle.vr_tabu.proofs.searching.search.Goals as goal
 
 -- what is left after a round, behind what was told
-left : (g : Over) (c : In_ok-stop g) → Goes (λ w. (goal.Watch-dyn g (w.vtable, w.value)).after w.value) (tabu_from_state c.args.closed.model.now c.args.parameters c.args.routes.now.lists c.args.state.now) (left_of c.args.closed.model.now c.args.parameters c.advance.new.routes.lists c.advance.new.self c.in_ok-stop.stop) c.args.watch.now.items c.advance.new.watch.items
+left : (g : Over) (c : In_ok-stop g) → Goes (λ w. (goal.Watch-dyn g (w.vtable, w.value)).after w.value)
+    (tabu_from_state c.args.closed.model.now c.args.parameters c.args.routes.now.lists c.args.state.now)
+    (left_of c.args.closed.model.now c.args.parameters c.advance.new.routes.lists c.advance.new.self c.in_ok-stop.stop)
+    c.args.watch.now.items c.advance.new.watch.items
 left g c =
-    let on = goes_as (λ w. (goal.Watch-dyn g (w.vtable, w.value)).after w.value) (tabu_from_state c.args.closed.model.now c.args.parameters c.args.routes.now.lists c.args.state.now) _ _ _ _ c.in_ok-stop.ensures.outcome c.rounds.invariant.goes in
-    goes_more (λ w. (goal.Watch-dyn g (w.vtable, w.value)).after w.value) (tabu_from_state c.args.closed.model.now c.args.parameters c.args.routes.now.lists c.args.state.now) (left_of c.args.closed.model.now c.args.parameters c.advance.new.routes.lists c.advance.new.self c.in_ok-stop.stop) (next_events c.args.closed.model.now c.args.parameters c.rounds.routes.lists c.rounds.state) _ _ _ on c.in_ok-stop.ensures.told
+    let on = goes_as (λ w. (goal.Watch-dyn g (w.vtable, w.value)).after w.value)
+    (tabu_from_state c.args.closed.model.now c.args.parameters c.args.routes.now.lists c.args.state.now)
+    _ _ _ _ c.in_ok-stop.ensures.outcome c.rounds.invariant.goes in
+    goes_more (λ w. (goal.Watch-dyn g (w.vtable, w.value)).after w.value)
+    (tabu_from_state c.args.closed.model.now c.args.parameters c.args.routes.now.lists c.args.state.now)
+    (left_of c.args.closed.model.now c.args.parameters c.advance.new.routes.lists c.advance.new.self c.in_ok-stop.stop)
+    (next_events c.args.closed.model.now c.args.parameters c.rounds.routes.lists c.rounds.state) _ _ _ on c.in_ok-stop.ensures.told
 
 pub returns-in_err-stop-clause-told_in_part : goal.returns-in_err-stop-clause-told_in_part
 returns-in_err-stop-clause-told_in_part g c =
-    let on = goes_as (λ w. (goal.Watch-dyn g (w.vtable, w.value)).after w.value) (tabu_from_state c.args.closed.model.now c.args.parameters c.args.routes.now.lists c.args.state.now) _ _ _ _ (on_next c.args.closed.model.now c.args.parameters c.rounds.routes.lists c.rounds.state (apart c.rounds.state.at.found c.args.parameters.limit.solutions c.rounds-test.true)) c.rounds.invariant.goes in
+    let on = goes_as (λ w. (goal.Watch-dyn g (w.vtable, w.value)).after w.value)
+    (tabu_from_state c.args.closed.model.now c.args.parameters c.args.routes.now.lists c.args.state.now) _ _ _
+    _ (on_next c.args.closed.model.now c.args.parameters c.rounds.routes.lists c.rounds.state
+    (apart c.rounds.state.at.found c.args.parameters.limit.solutions c.rounds-test.true)) c.rounds.invariant.goes in
     on_err c.from_residual.result
-    (breaks_off (λ w. (goal.Watch-dyn g (w.vtable, w.value)).after w.value) (tabu_from_state c.args.closed.model.now c.args.parameters c.args.routes.now.lists c.args.state.now) (left_behind c.args.closed.model.now c.args.parameters c.rounds.routes.lists c.rounds.state) (next_events c.args.closed.model.now c.args.parameters c.rounds.routes.lists c.rounds.state) _ _ _ on c.in_err-stop.ensures.told_in_part)
+    (breaks_off (λ w. (goal.Watch-dyn g (w.vtable, w.value)).after w.value)
+    (tabu_from_state c.args.closed.model.now c.args.parameters c.args.routes.now.lists c.args.state.now)
+    (left_behind c.args.closed.model.now c.args.parameters c.rounds.routes.lists c.rounds.state)
+    (next_events c.args.closed.model.now c.args.parameters c.rounds.routes.lists c.rounds.state) _ _ _ on c.in_err-stop.ensures.told_in_part)
 
 pub returns-in-Some-clause-stopped : goal.returns-in-Some-clause-stopped
 returns-in-Some-clause-stopped g c =
-    stops (λ w. (goal.Watch-dyn g (w.vtable, w.value)).after w.value) (tabu_from_state c.args.closed.model.now c.args.parameters c.args.routes.now.lists c.args.state.now) c.advance.new.routes.lists c.advance.new.self.at c.advance.new.self.best _ _ c.in-Some.end (goes_as (λ w. (goal.Watch-dyn g (w.vtable, w.value)).after w.value) (tabu_from_state c.args.closed.model.now c.args.parameters c.args.routes.now.lists c.args.state.now) _ _ _ _ (ap (left_of c.args.closed.model.now c.args.parameters c.advance.new.routes.lists c.advance.new.self) c.in-Some.is) (left g (goal.at.returns-in-Some-clause-stopped g c).In_ok-stop))
+    stops (λ w. (goal.Watch-dyn g (w.vtable, w.value)).after w.value)
+    (tabu_from_state c.args.closed.model.now c.args.parameters c.args.routes.now.lists c.args.state.now)
+    c.advance.new.routes.lists c.advance.new.self.at c.advance.new.self.best _ _
+    c.in-Some.end (goes_as (λ w. (goal.Watch-dyn g (w.vtable, w.value)).after w.value)
+    (tabu_from_state c.args.closed.model.now c.args.parameters c.args.routes.now.lists c.args.state.now) _ _ _ _
+    (ap (left_of c.args.closed.model.now c.args.parameters c.advance.new.routes.lists c.advance.new.self) c.in-Some.is)
+    (left g (goal.at.returns-in-Some-clause-stopped g c).In_ok-stop))
 
 pub returns-in-Some-clause-asked : goal.returns-in-Some-clause-asked
 returns-in-Some-clause-asked g c = on_then _ _ _ _ _ _ c.rounds.invariant.asked c.in_ok-stop.ensures.asked
@@ -55,9 +75,19 @@ rounds-preserved g c =
       stands = c.in_ok-stop.ensures.stands;
       asked = on_then _ _ _ _ _ _ c.rounds.invariant.asked c.in_ok-stop.ensures.asked;
       no_dearer = (let less = c.in_ok-stop.ensures.no_dearer in let before = c.rounds.invariant.no_dearer in omega (arith, ints, less, before));
-      goes = goes_as (λ w. (goal.Watch-dyn g (w.vtable, w.value)).after w.value) (tabu_from_state c.args.closed.model.now c.args.parameters c.args.routes.now.lists c.args.state.now) _ _ _ _ (ap (left_of c.args.closed.model.now c.args.parameters c.advance.new.routes.lists c.advance.new.self) c.in_default.is) (left g (goal.at.rounds-preserved g c).In_ok-stop);
+      goes = goes_as (λ w. (goal.Watch-dyn g (w.vtable, w.value)).after w.value)
+          (tabu_from_state c.args.closed.model.now c.args.parameters c.args.routes.now.lists c.args.state.now) _ _ _ _
+          (ap (left_of c.args.closed.model.now c.args.parameters c.advance.new.routes.lists c.advance.new.self) c.in_default.is)
+          (left g (goal.at.rounds-preserved g c).In_ok-stop);
     }
 
 pub returns-clause-stopped : goal.returns-clause-stopped
 returns-clause-stopped g c =
-    stops (λ w. (goal.Watch-dyn g (w.vtable, w.value)).after w.value) (tabu_from_state c.args.closed.model.now c.args.parameters c.args.routes.now.lists c.args.state.now) c.rounds.routes.lists c.rounds.state.at c.rounds.state.best _ _ Solutions (goes_as (λ w. (goal.Watch-dyn g (w.vtable, w.value)).after w.value) (tabu_from_state c.args.closed.model.now c.args.parameters c.args.routes.now.lists c.args.state.now) _ _ _ _ (enough c.args.closed.model.now c.args.parameters (tabus_of c.rounds.state.tabus) c.rounds.routes.lists c.rounds.state.best.routes.lists c.rounds.state.at.used c.rounds.state.at.found (test_of_eq c.rounds.state.at.found c.args.parameters.limit.solutions c.rounds-test.false)) c.rounds.invariant.goes)
+    stops (λ w. (goal.Watch-dyn g (w.vtable, w.value)).after w.value)
+    (tabu_from_state c.args.closed.model.now c.args.parameters c.args.routes.now.lists c.args.state.now)
+    c.rounds.routes.lists c.rounds.state.at c.rounds.state.best _ _ Solutions
+    (goes_as (λ w. (goal.Watch-dyn g (w.vtable, w.value)).after w.value)
+    (tabu_from_state c.args.closed.model.now c.args.parameters c.args.routes.now.lists c.args.state.now) _ _ _ _
+    (enough c.args.closed.model.now c.args.parameters (tabus_of c.rounds.state.tabus) c.rounds.routes.lists c.rounds.state.best.routes.lists
+    c.rounds.state.at.used c.rounds.state.at.found (test_of_eq c.rounds.state.at.found c.args.parameters.limit.solutions c.rounds-test.false))
+    c.rounds.invariant.goes)

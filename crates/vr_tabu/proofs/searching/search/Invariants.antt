@@ -12,7 +12,8 @@ invariant-rounds g l = record {
   stands : TabuStands l.closed.model.now l.parameters (g.J.Judge.committed l.judge) l.routes l.state;
   asked : AsksOn g.J.Judge.asked g.J.Judge.looked l.fn.judge l.judge l.fn.state.at.used l.state.at.used;
   no_dearer : l.state.best.cost ≤ℤ l.fn.state.best.cost;
-  goes : Goes (λ w. (goal.Watch-dyn g (w.vtable, w.value)).after w.value) (tabu_from_state l.closed.model.now l.parameters l.fn.routes.lists l.fn.state) (tabu_from_state l.closed.model.now l.parameters l.routes.lists l.state) l.fn.watch.items l.watch.items;
+  goes : Goes (λ w. (goal.Watch-dyn g (w.vtable, w.value)).after w.value) (tabu_from_state l.closed.model.now l.parameters l.fn.routes.lists l.fn.state)
+      (tabu_from_state l.closed.model.now l.parameters l.routes.lists l.state) l.fn.watch.items l.watch.items;
 }
 
 abbrev pub decreases-rounds : goal.decreases-rounds

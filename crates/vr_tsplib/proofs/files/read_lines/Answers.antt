@@ -16,7 +16,9 @@ unfolding lines
 loop-line-preserved c =
     let bytes = c.args.bytes.now in
     let all = slice_split (λ b. b == 10) bytes in
-    let turn = YieldsList-turn (YieldsList-at c.into_iter-line-iterator.ensures.into_iter_gives (YieldsList-from_slice_split _ (λ b. b == 10) bytes c.split-line-items.ensures.rest c.split-line-items.ensures.done c.split-line-items.ensures.closure (λ x r q k. search (rules, tests)))) c.loop-line.yielded _ c.loop-line.yielded_by _ _ c.in-Some.line c.in-Some.is c.next.ensures.steps in
+    let turn = YieldsList-turn (YieldsList-at c.into_iter-line-iterator.ensures.into_iter_gives
+    (YieldsList-from_slice_split _ (λ b. b == 10) bytes c.split-line-items.ensures.rest c.split-line-items.ensures.done c.split-line-items.ensures.closure
+    (λ x r q k. search (rules, tests)))) c.loop-line.yielded _ c.loop-line.yielded_by _ _ c.in-Some.line c.in-Some.is c.next.ensures.steps in
     let n = length c.loop-line.yielded in
     let number = c.loop-line.number in
     let more : length (c.loop-line.yielded ++ c.in-Some.line ∷ []) ≡ n + 1 = omega (arith, length-append c.loop-line.yielded (c.in-Some.line ∷ [])) in
@@ -33,7 +35,9 @@ unfolding lines
 returns-in-Err-clause-lines c =
     let bytes = c.args.bytes.now in
     let all = slice_split (λ b. b == 10) bytes in
-    let turn = YieldsList-turn (YieldsList-at c.into_iter-line-iterator.ensures.into_iter_gives (YieldsList-from_slice_split _ (λ b. b == 10) bytes c.split-line-items.ensures.rest c.split-line-items.ensures.done c.split-line-items.ensures.closure (λ x r q k. search (rules, tests)))) c.loop-line.yielded _ c.loop-line.yielded_by _ _ c.in-Some.line c.in-Some.is c.next.ensures.steps in
+    let turn = YieldsList-turn (YieldsList-at c.into_iter-line-iterator.ensures.into_iter_gives
+    (YieldsList-from_slice_split _ (λ b. b == 10) bytes c.split-line-items.ensures.rest c.split-line-items.ensures.done c.split-line-items.ensures.closure
+    (λ x r q k. search (rules, tests)))) c.loop-line.yielded _ c.loop-line.yielded_by _ _ c.in-Some.line c.in-Some.is c.next.ensures.steps in
     let number = c.loop-line.number in
     changed (sym (line_opens c.loop-line.state (number + 1) all (length c.loop-line.yielded) c.in-Some.line.now turn.0 turn.1) ∙ c.loop-line.invariant.so_far)
     (stops (Err c.refusal.result) _ (refused c.in-Err.fail (number + 1) c.refusal.result c.in-Err.ensures c.refusal.ensures) refl)
@@ -43,7 +47,9 @@ unfolding lines
 whole c =
     let bytes = c.args.bytes.now in
     let all = slice_split (λ b. b == 10) bytes in
-    let ended = YieldsList-end (YieldsList-at c.into_iter-line-iterator.ensures.into_iter_gives (YieldsList-from_slice_split _ (λ b. b == 10) bytes c.split-line-items.ensures.rest c.split-line-items.ensures.done c.split-line-items.ensures.closure (λ x r q k. search (rules, tests)))) c.loop-line.yielded _ c.loop-line.yielded_by _ _ c.in-None.is c.next.ensures.steps in
+    let ended = YieldsList-end (YieldsList-at c.into_iter-line-iterator.ensures.into_iter_gives
+    (YieldsList-from_slice_split _ (λ b. b == 10) bytes c.split-line-items.ensures.rest c.split-line-items.ensures.done c.split-line-items.ensures.closure
+    (λ x r q k. search (rules, tests)))) c.loop-line.yielded _ c.loop-line.yielded_by _ _ c.in-None.is c.next.ensures.steps in
     sym c.loop-line.invariant.so_far ∙ no_line_left c.loop-line.state (c.loop-line.number + 1) all (length c.loop-line.yielded) (omega (arith, ended.1))
 
 pub returns-clause-lines : goal.returns-clause-lines

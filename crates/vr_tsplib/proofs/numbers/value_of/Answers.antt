@@ -17,7 +17,11 @@ overflow_mul-value c = omega (arith, digits_fit c.loop-b.value c.loop-b.b-index 
 pub overflow_add-value : goal.overflow_add-value
 overflow_add-value c =
     let b = get_or c.args.text.now c.loop-b.b-index 0 in
-    omega (arith, digits_fit c.loop-b.value c.loop-b.b-index c.loop-b.invariant.small (omega (arith, c.loop-b-test.true, c.requires)), digit_low b (sym c.is_digit.ensures ∙ c.if-not-is_digit.false))
+    omega (
+      arith,
+      digits_fit c.loop-b.value c.loop-b.b-index c.loop-b.invariant.small (omega (arith, c.loop-b-test.true, c.requires)),
+      digit_low b (sym c.is_digit.ensures ∙ c.if-not-is_digit.false),
+    )
 
 pub loop-b-preserved : goal.loop-b-preserved
 loop-b-preserved c =
@@ -28,7 +32,8 @@ loop-b-preserved c =
     let is = sym c.is_digit.ensures ∙ c.if-not-is_digit.false in
     let digit = c.from.ensures in
     record {
-      so_far = ap (λ d. digits_behind (n * 10 + d) (drop (k + 1) text)) digit ∙ sym (one_digit_more n b (drop (k + 1) text) is) ∙ sym (at_drop_more (digits_behind n) text k 0 c.loop-b-test.true) ∙ c.loop-b.invariant.so_far;
+      so_far = ap (λ d. digits_behind (n * 10 + d) (drop (k + 1) text)) digit ∙ sym (one_digit_more n b (drop (k + 1) text) is)
+          ∙ sym (at_drop_more (digits_behind n) text k 0 c.loop-b-test.true) ∙ c.loop-b.invariant.so_far;
       small = one_power_more n k c.from.result c.loop-b.invariant.small (omega (arith, digit, digit_low b is));
     }
 

@@ -8,8 +8,11 @@ pub returns-clause-value : goal.returns-clause-value
 returns-clause-value c =
     let text = c.args.text.now in
     c.unwrap_or.ensures
-    ∙ ap (λ o. unwrap_or o (length text)) (position_from_yields_List (λ b. b == c.args.mark) _ _ _ c.position.ensures.ran (YieldsList-from_slice text cc) (λ x b q k. search (rules, tests)))
+    ∙ ap (λ o. unwrap_or o (length text))
+    (position_from_yields_List (λ b. b == c.args.mark) _ _ _ c.position.ensures.ran (YieldsList-from_slice text cc) (λ x b q k. search (rules, tests)))
     ∙ place_is (λ b. b == c.args.mark) text
 
 pub returns-clause-within : goal.returns-clause-within
-returns-clause-within c = let P : ℕ → Type 0 = λ n. n ≤ length c.args.text.now in subst P (sym (returns-clause-value c)) (place_low (λ b. b == c.args.mark) c.args.text.now)
+returns-clause-within c =
+    let P : ℕ → Type 0 = λ n. n ≤ length c.args.text.now in
+    subst P (sym (returns-clause-value c)) (place_low (λ b. b == c.args.mark) c.args.text.now)

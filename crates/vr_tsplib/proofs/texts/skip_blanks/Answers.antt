@@ -9,6 +9,7 @@ loop-k-preserved c =
     let text = c.args.text.now in
     let k = c.loop-k.k in
     record {
-      so_far = sym (skipped (get_or text k 0) (drop (k + 1) text) (sym c.is_blank.ensures ∙ c.if-is_blank.true)) ∙ sym (at_drop_more words text k 0 c.loop-k-test.true) ∙ c.loop-k.invariant.so_far;
+      so_far = sym (skipped (get_or text k 0) (drop (k + 1) text) (sym c.is_blank.ensures ∙ c.if-is_blank.true))
+          ∙ sym (at_drop_more words text k 0 c.loop-k-test.true) ∙ c.loop-k.invariant.so_far;
       in_range = omega (arith, c.loop-k-test.true);
     }

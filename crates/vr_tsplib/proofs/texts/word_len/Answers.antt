@@ -9,7 +9,8 @@ pub returns-clause-value : goal.returns-clause-value
 returns-clause-value c =
     let text = c.args.text.now in
     c.unwrap_or.ensures
-    ∙ ap (λ o. unwrap_or o (length text)) (position_from_yields_List is_blank _ _ _ c.position.ensures.ran (YieldsList-from_slice text cc) (λ x b q k. search (rules, tests)))
+    ∙ ap (λ o. unwrap_or o (length text))
+    (position_from_yields_List is_blank _ _ _ c.position.ensures.ran (YieldsList-from_slice text cc) (λ x b q k. search (rules, tests)))
     ∙ place_is is_blank text
 
 pub returns-clause-within : goal.returns-clause-within

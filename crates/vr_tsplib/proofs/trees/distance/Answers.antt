@@ -14,8 +14,10 @@ nearest_root-requires c =
     let bx : to_z w64 (of_z w64 c.args.b.x) ≡ c.args.b.x = omega (arith, ints, b.x_least, b.x_most) in
     let by : to_z w64 (of_z w64 c.args.b.y) ≡ c.args.b.y = omega (arith, ints, b.y_least, b.y_most) in
     let Low : ℕ → Type 0 = λ n. n ≤ 2000000 in
-    let dx = subst Low (sym (c.abs_diff-dx.ensures ∙ ap₂ (λ x y. nat_abs (x -ℤ y)) ax bx)) (apart_low c.args.a.x c.args.b.x a.x_least a.x_most b.x_least b.x_most) in
-    let dy = subst Low (sym (c.abs_diff-dy.ensures ∙ ap₂ (λ x y. nat_abs (x -ℤ y)) ay by)) (apart_low c.args.a.y c.args.b.y a.y_least a.y_most b.y_least b.y_most) in
+    let dx = subst Low (sym (c.abs_diff-dx.ensures ∙ ap₂ (λ x y. nat_abs (x -ℤ y)) ax bx))
+    (apart_low c.args.a.x c.args.b.x a.x_least a.x_most b.x_least b.x_most) in
+    let dy = subst Low (sym (c.abs_diff-dy.ensures ∙ ap₂ (λ x y. nat_abs (x -ℤ y)) ay by))
+    (apart_low c.args.a.y c.args.b.y a.y_least a.y_most b.y_least b.y_most) in
     squares_low c.abs_diff-dx.result c.abs_diff-dy.result dx dy
 
 pub overflow_add-dx : goal.overflow_add-dx

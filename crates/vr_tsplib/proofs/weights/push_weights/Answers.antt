@@ -8,7 +8,8 @@ use Rattle.vr_tsplib.proofs.weights.push_weights.Goals as goal
 pub returns-in_err-weight : goal.returns-in_err-weight
 returns-in_err-weight c =
     let all = c.loop-word.weights in
-    let reading = sym c.loop-word.invariant ∙ ap (weights_behind all) c.in-Some.ensures.words ∙ no_weight all c.in-Some.word.now (words c.in-Some.behind.now) (sym c.in_err-weight.ensures) in
+    let reading = sym c.loop-word.invariant ∙ ap (weights_behind all) c.in-Some.ensures.words
+    ∙ no_weight all c.in-Some.word.now (words c.in-Some.behind.now) (sym c.in_err-weight.ensures) in
     fails_seen _ c.from_residual.result reading c.from_residual.ensures.1
 
 pub loop-word-preserved : goal.loop-word-preserved

@@ -29,5 +29,8 @@ loop-g-preserved c =
     let few = c.args.closed.well_formed.number_of_groups in
     record {
       value = omega (arith, ints, more, here, a.value, a.range.low, a.range.high, i.value, i.range.low, i.range.high, is, low, few);
-      range = record { low = omega (arith, ints, a.range.low, a.range.high, i.range.low, i.range.high, is, low, few); high = omega (arith, ints, a.range.low, a.range.high, i.range.low, i.range.high, is, low, few) };
+      range = record {
+        low = omega (arith, ints, a.range.low, a.range.high, i.range.low, i.range.high, is, low, few);
+        high = omega (arith, ints, a.range.low, a.range.high, i.range.low, i.range.high, is, low, few);
+      };
     }

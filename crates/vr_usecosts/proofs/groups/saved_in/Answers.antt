@@ -16,5 +16,8 @@ loop-k-preserved c =
     let less = c.loop-k-test.true in
     record {
       value = omega (arith, ints, more, a.value, a.range.low, a.range.high, i.value, i.range.low, i.range.high, few, less);
-      range = record { low = omega (arith, ints, a.range.low, a.range.high, i.range.low, i.range.high, few, less); high = omega (arith, ints, a.range.low, a.range.high, i.range.low, i.range.high, few, less) };
+      range = record {
+        low = omega (arith, ints, a.range.low, a.range.high, i.range.low, i.range.high, few, less);
+        high = omega (arith, ints, a.range.low, a.range.high, i.range.low, i.range.high, few, less);
+      };
     }

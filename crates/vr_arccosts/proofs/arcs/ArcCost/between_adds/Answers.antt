@@ -44,7 +44,8 @@ cost_along-requires-clause-nodes c =
     let model : Model = c.args.self.now.model in
     let lists : List (List ℕ) = c.args.routes.now.lists in
     let s = small model c.requires.stands.well_formed lists c.requires.stands.valid in
-    subst (λ (m : Model). All (λ node. node < m.nodes) (joined lists c.args.pieces.now)) (sym c.costs_of-costs.ensures.model) (pieces-below model lists s.below c.args.pieces.now c.requires.known)
+    subst (λ (m : Model). All (λ node. node < m.nodes) (joined lists c.args.pieces.now))
+    (sym c.costs_of-costs.ensures.model) (pieces-below model lists s.below c.args.pieces.now c.requires.known)
 
 pub returns-clause-value : goal.returns-clause-value
 returns-clause-value c =
@@ -58,12 +59,15 @@ returns-clause-value c =
     let middle : List ℕ = joined lists c.args.pieces.now in
     let many = s.many in
     let as_many = s.as_many in
-    let kept = along-at c.self.inside.model.now lists c.self.inside.along.items v c.index.result.now s.along (omega (arith, many, as_many)) c.requires.vehicle c.index.ensures in
+    let kept = along-at c.self.inside.model.now lists c.self.inside.along.items v
+    c.index.result.now s.along (omega (arith, many, as_many)) c.requires.vehicle c.index.ensures in
     let a = c.cost_along.ensures in
     let b = c.stretch-before.ensures in
     let costs = c.costs_of-costs.ensures in
     let u = c.costs_of-costs.result.vehicle in
-    let after = a.value ∙ (ap (λ (m : Model). between_cost m u (route lists u) front behind middle) costs.model ∙ ap (λ u. between_cost c.args.self.now.model u (route lists u) front behind middle) costs.vehicle) in
+    let after = a.value
+    ∙ (ap (λ (m : Model). between_cost m u (route lists u) front behind middle) costs.model
+    ∙ ap (λ u. between_cost c.args.self.now.model u (route lists u) front behind middle) costs.vehicle) in
     let before = b.value c.self.inside.model.now v list kept ∙ ap (λ m. between_cost m v list front behind (slice_range list front behind)) model in
     let change = cost-between c.args.self.now.model v list middle front behind c.requires.order c.requires.place in
     omega (arith, ints, a.range.low, a.range.high, b.range.at_least, b.range.at_most, after, before, change)

@@ -18,10 +18,12 @@ invariant_of-result c =
     let is : IsLine c.self.inside.model.now v (route lists v) c.index.result.now = record {
       nodes = few.below v;
       few = few.few v;
-      sums = along-at c.self.inside.model.now lists c.self.inside.along.items v c.index.result.now s.along (omega (arith, many, as_many)) c.requires.vehicle c.index.ensures;
+      sums = along-at c.self.inside.model.now lists c.self.inside.along.items v c.index.result.now
+          s.along (omega (arith, many, as_many)) c.requires.vehicle c.index.ensures;
     } in
     record {
-      sound = subst (λ (m : Model). IsLine m c.costs_of.result.vehicle c.list.result.now c.index.result.now) (ap (λ k. k.model) c.self.view_is ∙ sym c.costs_of.ensures.model)
+      sound = subst (λ (m : Model). IsLine m c.costs_of.result.vehicle c.list.result.now c.index.result.now)
+          (ap (λ k. k.model) c.self.view_is ∙ sym c.costs_of.ensures.model)
           (subst (λ n. IsLine c.self.inside.model.now n c.list.result.now c.index.result.now) (sym c.costs_of.ensures.vehicle)
           (subst (λ l. IsLine c.self.inside.model.now v l c.index.result.now) (sym c.list.ensures.value) is));
     }

@@ -29,7 +29,8 @@ loop-v-preserved c =
     let items = c.in_ok-push.ensures.items in
     record {
       many = ap length items ∙ length-append c.loop-v.along.items (c.write.new.self ∷ []) ∙ ap (λ n. n + 1) i.many;
-      along = rows-push (λ u row. IsAlong model u (route lists u) row) no_sums c.loop-v.along.items c.push.new.self.items c.write.new.self v i.many i.along new items;
+      along = rows-push (λ u row. IsAlong model u (route lists u) row) no_sums
+          c.loop-v.along.items c.push.new.self.items c.write.new.self v i.many i.along new items;
     }
 
 pub returns-clause-stands : goal.returns-clause-stands

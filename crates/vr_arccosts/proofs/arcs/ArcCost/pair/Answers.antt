@@ -10,13 +10,17 @@ returns-clause-value c = sym (c.get.ensures.value (record { pickup = 0; delivery
 pub returns-clause-pickup : goal.returns-clause-pickup
 returns-clause-pickup c =
     let model = c.args.self.now.model in
-    let is : pair_at model c.args.p ≡ c.get.result.now = sym (ap (λ k. pair_at k.model c.args.p) c.self.view_is) ∙ c.get.ensures.value (record { pickup = 0; delivery = 0 }) in
+    let is : pair_at model c.args.p ≡ c.get.result.now = sym (ap (λ k. pair_at k.model c.args.p) c.self.view_is)
+    ∙ c.get.ensures.value (record { pickup = 0; delivery = 0 }) in
     subst (λ (pair : Pair). pair.pickup < model.nodes) is
-    (visit_below model (pair_at model c.args.p).pickup (c.requires.well_formed.each_pair c.args.p (record { pickup = 0; delivery = 0 }) c.requires.pair).pickup_is_visit)
+    (visit_below model (pair_at model c.args.p).pickup
+    (c.requires.well_formed.each_pair c.args.p (record { pickup = 0; delivery = 0 }) c.requires.pair).pickup_is_visit)
 
 pub returns-clause-delivery : goal.returns-clause-delivery
 returns-clause-delivery c =
     let model = c.args.self.now.model in
-    let is : pair_at model c.args.p ≡ c.get.result.now = sym (ap (λ k. pair_at k.model c.args.p) c.self.view_is) ∙ c.get.ensures.value (record { pickup = 0; delivery = 0 }) in
+    let is : pair_at model c.args.p ≡ c.get.result.now = sym (ap (λ k. pair_at k.model c.args.p) c.self.view_is)
+    ∙ c.get.ensures.value (record { pickup = 0; delivery = 0 }) in
     subst (λ (pair : Pair). pair.delivery < model.nodes) is
-    (visit_below model (pair_at model c.args.p).delivery (c.requires.well_formed.each_pair c.args.p (record { pickup = 0; delivery = 0 }) c.requires.pair).delivery_is_visit)
+    (visit_below model (pair_at model c.args.p).delivery
+    (c.requires.well_formed.each_pair c.args.p (record { pickup = 0; delivery = 0 }) c.requires.pair).delivery_is_visit)

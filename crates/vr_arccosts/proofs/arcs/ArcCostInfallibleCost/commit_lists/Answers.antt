@@ -28,7 +28,8 @@ write-requires-clause-nodes c =
     let low = subst (λ n. c.loop-k.k < n) c.parts-k-end.ensures.value c.loop-k-test.true in
     let part = is-part model c.requires.stands.well_formed lists c.args.change.now c.requires.made.makes.parts_are c.requires.valid c.loop-k.k low in
     let list = c.as_slice.ensures.value ∙ c.join_into.ensures ∙ ap (joined lists) c.pieces.ensures.value in
-    subst (λ m. All (λ node. node < m.nodes) c.as_slice.result.now) (sym c.loop-k.invariant.model) (subst (All (λ node. node < model.nodes)) (sym list) part.nodes)
+    subst (λ m. All (λ node. node < m.nodes) c.as_slice.result.now) (sym c.loop-k.invariant.model)
+    (subst (All (λ node. node < model.nodes)) (sym list) part.nodes)
 
 pub loop-k-preserved : goal.loop-k-preserved
 loop-k-preserved c =
@@ -49,7 +50,8 @@ loop-k-preserved c =
     let v = c.vehicle-v.result in
     let base : List (List ℕ) = upto lists parts k in
     let new = subst (λ l. IsAlong model v l c.write.new.self) list c.write.ensures in
-    let set = rows-set (IsAlong model) no_sums base rows v (joined lists part.pieces) c.write.new.self i.along (omega (arith, vehicle, known, many, all_many, as_many)) new in
+    let set = rows-set (IsAlong model) no_sums base rows v (joined lists part.pieces)
+    c.write.new.self i.along (omega (arith, vehicle, known, many, all_many, as_many)) new in
     let next : upto lists parts (k + 1) ≡ with_route base v (joined lists part.pieces) =
     ap (upto lists parts) (add-one k) ∙ upto-next lists parts k low ∙ ap (λ w. with_route base w (joined lists part.pieces)) (sym vehicle) in
     record {
@@ -66,7 +68,8 @@ returns-clause-stands c =
     let parts = c.args.change.now in
     let many = c.parts-k-end.ensures.value in
     let high = c.loop-k-test.false in
-    let all : upto lists parts c.loop-k.k ≡ changed lists parts = ap (λ ps. with_parts lists ps lists) (take_all c.loop-k.k parts (omega (arith, many, high))) in
+    let all : upto lists parts c.loop-k.k ≡ changed lists parts = ap (λ ps. with_parts lists ps lists)
+    (take_all c.loop-k.k parts (omega (arith, many, high))) in
     record {
       well_formed = subst IsWellFormed (sym i.model) h.well_formed;
       of_model = subst (λ m. c.args.routes.now.visits ≡ visits m) (sym i.model) h.of_model;

@@ -8,5 +8,6 @@ returns-clause-exact c =
     let a = c.args in
     let one = c.between_adds-one.ensures in
     let other = c.between_adds-other.ensures in
-    let both = crossed-adds a.self.kept.now.model a.self.routes.now.lists a.v a.a a.w a.b c.requires.is_one c.front.ensures c.front-2.ensures one.value other.value in
+    let both = crossed-adds a.self.kept.now.model a.self.routes.now.lists a.v a.a a.w
+    a.b c.requires.is_one c.front.ensures c.front-2.ensures one.value other.value in
     omega (arith, ints, one.range.low, one.range.high, other.range.low, other.range.high, both)

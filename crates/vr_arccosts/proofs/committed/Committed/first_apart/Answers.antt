@@ -14,7 +14,11 @@ returns-clause-no_less c b low high =
     let far : run.v ≡ run.w → run.a + 1 < b = λ same. let more = c.requires.apart same in omega (arith, more, low) in
     let line = c.line_of-line.ensures in
     let other = c.line_of-other in
-    let least = least-told run.asked.bound (λ m n l. swap_added m n l run.a (slice_index other.result.list.now b) +ℤ swap_added m other.result.costs.vehicle other.result.list.now b (slice_index l run.a))
+    let least = least-told run.asked.bound
+    (λ m n l. swap_added m n l run.a (slice_index other.result.list.now b)
+    +ℤ swap_added m other.result.costs.vehicle other.result.list.now b (slice_index l run.a))
     line.model line.vehicle line.list (c.first_swap.ensures.no_less b low high) in
     swap-no-less model lists run.v run.a run.w b run.asked.bound far
-    (list-told run.asked.bound (λ n l. swap_added model run.v (route lists run.v) run.a (slice_index l b) +ℤ swap_added model n l b (slice_index (route lists run.v) run.a)) other.ensures.vehicle other.ensures.list least)
+    (list-told run.asked.bound
+    (λ n l. swap_added model run.v (route lists run.v) run.a (slice_index l b) +ℤ swap_added model n l b (slice_index (route lists run.v) run.a))
+    other.ensures.vehicle other.ensures.list least)

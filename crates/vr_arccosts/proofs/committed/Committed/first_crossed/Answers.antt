@@ -15,7 +15,11 @@ returns-clause-no_less c b low high =
     let next = c.starting.ensures in
     first-or-behind (λ n. AddsNoLess model lists (Cross c.args.v c.args.a c.args.w n) c.args.asked.bound) 0 b (omega arith)
     (elim c.else-a-gt0.branch [
-      | else-a-gt0-via-then-a-gt0+else-crossed-asked x ↦ (let one = x.crossed.ensures in let no = x.if-crossed-asked.false in λ _. omega (arith, ints, one.exact, one.range.low, one.range.high, no))
-      | else-a-gt0-via-else-a-gt0 x ↦ (let none = x.if-a-gt0.false in λ one. absurd ((of_cross model lists c.args.v c.args.a c.args.w 0 one).some (omega (arith, none)) refl))
+      | else-a-gt0-via-then-a-gt0+else-crossed-asked x ↦ (let one = x.crossed.ensures in
+          let no = x.if-crossed-asked.false in
+          λ _. omega (arith, ints, one.exact, one.range.low, one.range.high, no))
+      | else-a-gt0-via-else-a-gt0 x ↦ (let none = x.if-a-gt0.false in
+          λ one. absurd ((of_cross model lists c.args.v c.args.a c.args.w 0 one).some (omega (arith, none)) refl))
     ])
-    (λ behind. subst (λ (d : ℤ). AddsNoLess model lists (Cross c.args.v c.args.a c.args.w b) d) next.bound (c.first-2.ensures.no_less b (let from = next.from in omega (arith, from, behind)) high))
+    (λ behind. subst (λ (d : ℤ). AddsNoLess model lists (Cross c.args.v c.args.a c.args.w b) d)
+    next.bound (c.first-2.ensures.no_less b (let from = next.from in omega (arith, from, behind)) high))

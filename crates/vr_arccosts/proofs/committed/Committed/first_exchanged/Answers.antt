@@ -20,4 +20,5 @@ returns-clause-no_less c b low high =
     let same = ap (λ u. arcs_added model lists (Exchange run.v run.a u (run.a + 1))) c.if-v-w.false in
     first-or-behind (λ n. AddsNoLess model lists (Exchange run.v run.a run.w n) run.asked.bound) (run.a + 1) b (omega (arith, after, low))
     (λ _. omega (arith, ints, one.exact, one.range.low, one.range.high, same, no))
-    (λ behind. subst (λ (d : ℤ). AddsNoLess model lists (Exchange run.v run.a run.w b) d) next.bound (c.first_apart-2.ensures.no_less b (omega (arith, from, behind)) high))
+    (λ behind. subst (λ (d : ℤ). AddsNoLess model lists (Exchange run.v run.a run.w b) d)
+    next.bound (c.first_apart-2.ensures.no_less b (omega (arith, from, behind)) high))

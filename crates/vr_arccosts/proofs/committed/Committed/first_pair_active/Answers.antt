@@ -11,6 +11,8 @@ returns-clause-no_less c t low high =
     let model : Model = c.args.self.kept.now.model in
     let lists : List (List ℕ) = c.args.self.routes.now.lists in
     let line = c.line_of-line in
-    let put = put-told model c.args.w (route lists c.args.w) c.args.s t (pair_at model c.args.p) line.result.costs.model.now line.result.costs.vehicle line.result.list.now c.pair-pair.result
+    let put = put-told model c.args.w (route lists c.args.w) c.args.s t (pair_at model c.args.p)
+    line.result.costs.model.now line.result.costs.vehicle line.result.list.now c.pair-pair.result
     line.ensures.model line.ensures.vehicle line.ensures.list c.pair-pair.ensures.value in
-    pair-no-less model lists c.args.p c.args.w c.args.s t c.args.asked.bound (subst (λ d. c.args.asked.bound ≤ℤ (pos 0 +ℤ d)) put (c.first_delivery.ensures.no_less t low high))
+    pair-no-less model lists c.args.p c.args.w c.args.s t c.args.asked.bound
+    (subst (λ d. c.args.asked.bound ≤ℤ (pos 0 +ℤ d)) put (c.first_delivery.ensures.no_less t low high))

@@ -12,7 +12,8 @@ pub invariant_of-put : goal.invariant_of-put
 invariant_of-put c =
     let s = small c.args.self.kept.now.model c.args.self.stands.well_formed c.args.self.routes.now.lists c.args.self.stands.valid in
     let node = subst (λ (m : Model). c.node_at-node.result < m.nodes) (sym c.line_of-line.ensures.model)
-    (subst (λ n. n < c.args.self.kept.now.model.nodes) (sym c.node_at-node.ensures) (s.below c.args.v c.args.a 0 (omega (arith, c.if-a-len.false, c.len.ensures.value)))) in
+    (subst (λ n. n < c.args.self.kept.now.model.nodes) (sym c.node_at-node.ensures)
+    (s.below c.args.v c.args.a 0 (omega (arith, c.if-a-len.false, c.len.ensures.value)))) in
     record { sound = record { first_known = node; last_known = node; range = search rules } }
 
 pub returns-clause-no_less : goal.returns-clause-no_less

@@ -18,15 +18,18 @@ pub first_newcomer-requires-clause-nodes : goal.first_newcomer-requires-clause-n
 first_newcomer-requires-clause-nodes c =
     let model : Model = c.args.self.kept.now.model in
     let lists : List (List ℕ) = c.args.self.routes.now.lists in
-    let idle : c.inactive-visits.result.now ≡ inactive_of (visits model) lists = c.inactive-visits.ensures.value ∙ ap (λ l. inactive_of l lists) c.args.self.stands.of_model in
+    let idle : c.inactive-visits.result.now ≡ inactive_of (visits model) lists = c.inactive-visits.ensures.value
+    ∙ ap (λ l. inactive_of l lists) c.args.self.stands.of_model in
     subst (λ (m : Model). All (λ node. node < m.nodes) c.inactive-visits.result.now) (sym c.line_of-line.ensures.model)
-    (subst (λ l. All (λ node. node < model.nodes) l) (sym idle) (All-filter (λ node. not (is_active lists node)) (λ node. node < model.nodes) (visits model) (visits_below model)))
+    (subst (λ l. All (λ node. node < model.nodes) l) (sym idle)
+    (All-filter (λ node. not (is_active lists node)) (λ node. node < model.nodes) (visits model) (visits_below model)))
 
 pub first_newcomer-requires-clause-ascending : goal.first_newcomer-requires-clause-ascending
 first_newcomer-requires-clause-ascending c =
     let model : Model = c.args.self.kept.now.model in
     let lists : List (List ℕ) = c.args.self.routes.now.lists in
-    let idle : c.inactive-visits.result.now ≡ inactive_of (visits model) lists = c.inactive-visits.ensures.value ∙ ap (λ l. inactive_of l lists) c.args.self.stands.of_model in
+    let idle : c.inactive-visits.result.now ≡ inactive_of (visits model) lists = c.inactive-visits.ensures.value
+    ∙ ap (λ l. inactive_of l lists) c.args.self.stands.of_model in
     subst IsStrictlyIncreasing (sym idle) (IsStrictlyIncreasing-filter (λ node. not (is_active lists node)) (visits model) (visits_ascend model))
 
 pub returns-clause-no_less : goal.returns-clause-no_less
@@ -34,7 +37,8 @@ returns-clause-no_less c u low high one =
     let a = c.args in
     let model : Model = a.self.kept.now.model in
     let lists : List (List ℕ) = a.self.routes.now.lists in
-    let idle : c.inactive-visits.result.now ≡ inactive_of (visits model) lists = c.inactive-visits.ensures.value ∙ ap (λ l. inactive_of l lists) a.self.stands.of_model in
+    let idle : c.inactive-visits.result.now ≡ inactive_of (visits model) lists = c.inactive-visits.ensures.value
+    ∙ ap (λ l. inactive_of l lists) a.self.stands.of_model in
     let at = place_of_held (inactive_of (visits model) lists) u (newcomer-held model lists a.v a.a u one) in
     let here : slice_index c.inactive-visits.result.now at.0 ≡ u = ap (λ l. slice_index l at.0) idle ∙ at.2 in
     let told = c.first_newcomer.ensures.no_less at.0 (subst (λ l. at.0 < length l) (sym idle) at.1)

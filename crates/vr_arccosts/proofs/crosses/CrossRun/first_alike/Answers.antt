@@ -17,7 +17,8 @@ returns-clause-no_less c b low high =
     let from = left.from in
     let past = c.if-b-n.false in
     elim (cases_lt b n) [
-      | inl less ↦ subst (λ (d : ℤ). AddsNoLess model lists (Cross run.v run.a run.w b) d) left.bound (c.first_left-b.ensures.no_less b (omega (arith, from, low)) (omega (arith, less, past)))
+      | inl less ↦ subst (λ (d : ℤ). AddsNoLess model lists (Cross run.v run.a run.w b) d) left.bound
+          (c.first_left-b.ensures.no_less b (omega (arith, from, low)) (omega (arith, less, past)))
       | inr more ↦ (
           let many = c.len-n.ensures.value in
           let places = run.places in
@@ -27,5 +28,6 @@ returns-clause-no_less c b low high =
           let one = c.crossed.ensures in
           let no = c.if-crossed-asked.false in
           λ _. subst (λ a. run.asked.bound ≤ℤ arcs_added model lists (Cross run.v a run.w b)) empty
-          (subst (λ m. run.asked.bound ≤ℤ arcs_added model lists (Cross run.v 0 run.w m)) last (omega (arith, ints, one.exact, one.range.low, one.range.high, no))))
+          (subst (λ m. run.asked.bound ≤ℤ arcs_added model lists (Cross run.v 0 run.w m))
+          last (omega (arith, ints, one.exact, one.range.low, one.range.high, no))))
     ]

@@ -26,12 +26,17 @@ returns-clause-no_less c b low high =
     let within = c.first_gap.ensures.within in
     let base : c.base-base.result ≡ cross_base model run.v list run.w (route lists run.w) run.a =
     c.base-base.ensures.value
-    ∙ (line-told (λ m n l. cross_base m n l wn his run.a) line.model line.vehicle line.list ∙ ap₂ (λ n l. cross_base model run.v list n l run.a) other.vehicle other.list) in
-    let to : c.node_at.result ≡ at_place model run.v list run.a = c.node_at.ensures.value ∙ (ap (λ (m : Model). at_place m vn mine run.a) line.model ∙ ap₂ (λ n l. at_place model n l run.a) line.vehicle line.list) in
+    ∙ (line-told (λ m n l. cross_base m n l wn his run.a) line.model line.vehicle line.list
+    ∙ ap₂ (λ n l. cross_base model run.v list n l run.a) other.vehicle other.list) in
+    let to : c.node_at.result ≡ at_place model run.v list run.a = c.node_at.ensures.value
+    ∙ (ap (λ (m : Model). at_place m vn mine run.a) line.model ∙ ap₂ (λ n l. at_place model n l run.a) line.vehicle line.list) in
     let last : c.last.result ≡ last_of (vehicle_at model run.w).start (take run.a list) =
-    c.last.ensures.value ∙ (ap (λ (m : Model). last_of (vehicle_at m wn).start (take run.a mine)) line.model ∙ ap₂ (λ n l. last_of (vehicle_at model n).start (take run.a l)) other.vehicle line.list) in
+    c.last.ensures.value
+    ∙ (ap (λ (m : Model). last_of (vehicle_at m wn).start (take run.a mine)) line.model
+    ∙ ap₂ (λ n l. last_of (vehicle_at model n).start (take run.a l)) other.vehicle line.list) in
     let read = to_z w64 (of_z w64 c.base-base.result) in
-    let least = least-told run.asked.bound (λ m n l. read +ℤ gap_added m n l c.node_at.result c.last.result b) other.model other.vehicle other.list (c.first_gap.ensures.no_less b low high) in
+    let least = least-told run.asked.bound (λ m n l. read +ℤ gap_added m n l c.node_at.result c.last.result b)
+    other.model other.vehicle other.list (c.first_gap.ensures.no_less b low high) in
     let r = c.base-base.ensures.range in
     fronts-no-less model lists run.v run.a run.w b run.asked.bound read c.requires.costs (omega (arith, some, low))
     (λ none. let left = c.requires.left none (omega (arith, low, high, within)) in omega (arith, left, high, within)) (omega (arith, ints, base, r.low, r.high))

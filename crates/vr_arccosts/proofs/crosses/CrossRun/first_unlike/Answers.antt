@@ -11,6 +11,8 @@ returns-clause-no_less c b low high =
     let lists : List (List ℕ) = run.lists.routes.now.lists in
     let line = c.line_of-line.ensures in
     let other = c.line_of-other in
-    let least = least-told run.asked.bound (λ m n l. fronts_added m n l other.result.costs.vehicle other.result.list.now run.a b) line.model line.vehicle line.list (c.first_front.ensures.no_less b low high) in
+    let least = least-told run.asked.bound (λ m n l. fronts_added m n l other.result.costs.vehicle other.result.list.now run.a b)
+    line.model line.vehicle line.list (c.first_front.ensures.no_less b low high) in
     fronts-told run.lists.kept.now.model lists run.v run.a run.w b run.asked.bound
-    (list-told run.asked.bound (λ n l. fronts_added run.lists.kept.now.model run.v (route lists run.v) n l run.a b) other.ensures.vehicle other.ensures.list least)
+    (list-told run.asked.bound (λ n l. fronts_added run.lists.kept.now.model run.v (route lists run.v) n l run.a b)
+    other.ensures.vehicle other.ensures.list least)

@@ -18,5 +18,21 @@ returns-clause-value c =
     let gone = c.stretch-other_old.ensures in
     let old-is = old.value model c.args.self.now.fronts.line.now.costs.vehicle list line.sums in
     let gone-is : c.stretch-other_old.result ≡ between_cost model w other 0 c.args.self.now.b (slice_range other 0 c.args.self.now.b) =
-    gone.value c.args.self.now.fronts.other.now.costs.model.now w other c.args.self.now.fronts.other.now.sound.sums ∙ ap (λ (m : Model). between_cost m w other 0 c.args.self.now.b (slice_range other 0 c.args.self.now.b)) c.args.self.now.fronts.same in
-    omega (arith, ints, got.value, left.value, old-is, gone-is, got.range.low, got.range.high, left.range.low, left.range.high, old.range.at_least, old.range.at_most, gone.range.at_least, gone.range.at_most)
+    gone.value c.args.self.now.fronts.other.now.costs.model.now w other c.args.self.now.fronts.other.now.sound.sums
+    ∙ ap (λ (m : Model). between_cost m w other 0 c.args.self.now.b (slice_range other 0 c.args.self.now.b)) c.args.self.now.fronts.same in
+    omega (
+      arith,
+      ints,
+      got.value,
+      left.value,
+      old-is,
+      gone-is,
+      got.range.low,
+      got.range.high,
+      left.range.low,
+      left.range.high,
+      old.range.at_least,
+      old.range.at_most,
+      gone.range.at_least,
+      gone.range.at_most,
+    )

@@ -14,7 +14,8 @@ returns-then-self-list-clause-value c =
     let cost = arc_cost c.args.self.now.fronts.line.now.costs.model.now c.args.self.now.fronts.line.now.costs.vehicle in
     let other : List ℕ = c.args.self.now.fronts.other.now.list.now in
     let all = c.if-self-list.true in
-    let is : c.args.self.now.inner ≡ chain_sum cost (take (c.args.self.now.b + 1) other) = c.args.self.now.inner_is ∙ ap (chain_sum cost) (take_all c.args.self.now.b other (omega (arith, all)) ∙ sym (take_all (c.args.self.now.b + 1) other (omega (arith, all)))) in
+    let is : c.args.self.now.inner ≡ chain_sum cost (take (c.args.self.now.b + 1) other) = c.args.self.now.inner_is
+    ∙ ap (chain_sum cost) (take_all c.args.self.now.b other (omega (arith, all)) ∙ sym (take_all (c.args.self.now.b + 1) other (omega (arith, all)))) in
     let range = c.args.self.now.inner_range in
     omega (arith, ints, is, range.low, range.high)
 
@@ -37,8 +38,10 @@ returns-clause-range c =
     let v = c.args.self.now.fronts.line.now.costs.vehicle in
     let cost = arc_cost model v in
     let other : List ℕ = c.args.self.now.fronts.other.now.list.now in
-    let nodes : All (λ node. node < model.nodes) other = subst (λ (m : Model). All (λ node. node < m.nodes) other) c.args.self.now.fronts.same c.args.self.now.fronts.other.now.sound.nodes in
-    let u : IsUpTo (c.args.self.now.b + 1) (chain_sum cost (take (c.args.self.now.b + 1) other)) = so-far model.nodes (turned false cost) (costs-of model costs.well_formed v costs.there false) other nodes (c.args.self.now.b + 1) in
+    let nodes : All (λ node. node < model.nodes) other = subst (λ (m : Model). All (λ node. node < m.nodes) other)
+    c.args.self.now.fronts.same c.args.self.now.fronts.other.now.sound.nodes in
+    let u : IsUpTo (c.args.self.now.b + 1) (chain_sum cost (take (c.args.self.now.b + 1) other)) = so-far model.nodes
+    (turned false cost) (costs-of model costs.well_formed v costs.there false) other nodes (c.args.self.now.b + 1) in
     let few = c.args.self.now.fronts.other.now.sound.few in
     let place = c.args.self.now.within in
     let more = c.if-self-list.false in

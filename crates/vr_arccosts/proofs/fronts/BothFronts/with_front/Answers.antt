@@ -17,7 +17,8 @@ returns-clause-value c =
     let to = c.cost-to.ensures in
     let on = c.cost-on.ensures in
     let to-is : c.cost-to.result ≡ arc_cost model v (vehicle_at model v).start x = to.value ∙ ap (λ n. arc_cost model v n x) c.start.ensures.value in
-    let on-is : c.cost-on.result ≡ arc_cost model v y (at_place model v list c.args.self.now.fronts.a) = on.value ∙ ap (arc_cost model v y) c.node_at.ensures.value in
+    let on-is : c.cost-on.result ≡ arc_cost model v y (at_place model v list c.args.self.now.fronts.a) = on.value
+    ∙ ap (arc_cost model v y) c.node_at.ensures.value in
     let is = front-given model v list other c.args.self.now.fronts.a c.args.self.now.b c.args.self.now.some c.args.self.now.within in
     let inner = c.args.self.now.inner_is in
     let range = c.args.self.now.inner_range in

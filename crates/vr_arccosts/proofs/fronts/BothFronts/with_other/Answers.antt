@@ -10,7 +10,8 @@ use Rattle.vr_arccosts.proofs.fronts.BothFronts.with_other.Goals.{else-self-eq0-
 
 pub returns-then-self-other-clause-value : goal.returns-then-self-other-clause-value
 returns-then-self-other-clause-value c =
-    sym (front-gone c.args.self.now.fronts.line.now.costs.model.now c.args.self.now.fronts.other.now.costs.vehicle c.args.self.now.fronts.line.now.list.now c.args.self.now.fronts.other.now.list.now c.args.self.now.fronts.a c.args.self.now.b c.if-self-eq0.true c.if-self-other.true)
+    sym (front-gone c.args.self.now.fronts.line.now.costs.model.now c.args.self.now.fronts.other.now.costs.vehicle c.args.self.now.fronts.line.now.list.now
+    c.args.self.now.fronts.other.now.list.now c.args.self.now.fronts.a c.args.self.now.b c.if-self-eq0.true c.if-self-other.true)
 
 pub returns-clause-value : goal.returns-clause-value
 returns-clause-value c =
@@ -25,10 +26,13 @@ returns-clause-value c =
     ] in
     let on = c.cost-on.ensures in
     let last = c.last.ensures.value in
-    let at : c.node_at.result ≡ at_place model w other c.args.self.now.b = c.node_at.ensures.value ∙ ap (λ (m : Model). at_place m w other c.args.self.now.b) c.args.self.now.fronts.same in
-    let on-is : c.cost-on.result ≡ arc_cost model w (last_of (vehicle_at model w).start (take c.args.self.now.fronts.a list)) (at_place model w other c.args.self.now.b) =
+    let at : c.node_at.result ≡ at_place model w other c.args.self.now.b = c.node_at.ensures.value
+    ∙ ap (λ (m : Model). at_place m w other c.args.self.now.b) c.args.self.now.fronts.same in
+    let on-is : c.cost-on.result
+    ≡ arc_cost model w (last_of (vehicle_at model w).start (take c.args.self.now.fronts.a list)) (at_place model w other c.args.self.now.b) =
     on.value ∙ (ap (λ (m : Model). arc_cost m w c.last.result c.node_at.result) c.args.self.now.fronts.same
-    ∙ (ap (λ n. arc_cost model w n c.node_at.result) last ∙ ap (arc_cost model w (last_of (vehicle_at model w).start (take c.args.self.now.fronts.a list))) at)) in
+    ∙ (ap (λ n. arc_cost model w n c.node_at.result) last
+    ∙ ap (arc_cost model w (last_of (vehicle_at model w).start (take c.args.self.now.fronts.a list))) at)) in
     let is = front-left model w list other c.args.self.now.fronts.a c.args.self.now.b c.args.self.now.fronts.place low some in
     let front = c.args.self.now.front_is in
     let range = c.args.self.now.front_range in

@@ -14,7 +14,8 @@ returns-clause-value c =
     let from = c.cost-from.ensures in
     let left = c.cost-left.ensures in
     let front = c.front_added-front.ensures in
-    let from-is : c.cost-from.result ≡ arc_cost model v (vehicle_at model v).start first = from.value ∙ ap (λ n. arc_cost model v n first) c.start.ensures.value in
+    let from-is : c.cost-from.result ≡ arc_cost model v (vehicle_at model v).start first = from.value
+    ∙ ap (λ n. arc_cost model v n first) c.start.ensures.value in
     let left-is : c.cost-left.result ≡ arc_cost model w (vehicle_at model w).start first =
     left.value ∙ (ap (λ (m : Model). arc_cost m w c.start-2.result first) c.args.self.now.same
     ∙ ap (λ n. arc_cost model w n first) (c.start-2.ensures.value ∙ ap (λ (m : Model). (vehicle_at m w).start) c.args.self.now.same)) in

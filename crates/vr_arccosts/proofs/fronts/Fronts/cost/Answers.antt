@@ -27,6 +27,7 @@ returns-clause-value c =
     let to-is : c.cost-to.result ≡ arc_cost model w (vehicle_at model w).start x =
     to.value ∙ (ap (λ (m : Model). arc_cost m w c.start.result x) c.args.self.now.same
     ∙ ap (λ n. arc_cost model w n x) (c.start.ensures.value ∙ ap (λ (m : Model). (vehicle_at m w).start) c.args.self.now.same)) in
-    let along-is : c.costs_along.result ≡ chain_sum (arc_cost model w) (take c.args.self.now.a list) = along.value ∙ ap (λ (m : Model). chain_sum (arc_cost m w) (take c.args.self.now.a list)) c.args.self.now.same in
+    let along-is : c.costs_along.result ≡ chain_sum (arc_cost model w) (take c.args.self.now.a list) = along.value
+    ∙ ap (λ (m : Model). chain_sum (arc_cost m w) (take c.args.self.now.a list)) c.args.self.now.same in
     let sum = front-sum model w list c.args.self.now.a (omega (arith, some)) c.args.self.now.place in
     omega (arith, ints, to-is, along-is, sum, to.not_negative, to.bound, along.range.low, along.range.high)

@@ -17,5 +17,6 @@ returns-clause-value c =
     let model : Model = c.args.self.now.line.now.costs.model.now in
     let list : List ℕ = c.args.self.now.line.now.list.now in
     let some = c.if-self-eq0.false in
-    c.node_before.ensures.value ∙ last-kept (vehicle_at model c.args.self.now.line.now.costs.vehicle).start list c.args.self.now.a (omega (arith, some)) c.args.self.now.place
+    c.node_before.ensures.value
+    ∙ last-kept (vehicle_at model c.args.self.now.line.now.costs.vehicle).start list c.args.self.now.a (omega (arith, some)) c.args.self.now.place
     ∙ sym (last-kept (vehicle_at model c.args.self.now.other.now.costs.vehicle).start list c.args.self.now.a (omega (arith, some)) c.args.self.now.place)

@@ -15,6 +15,8 @@ returns c list n h arc =
     let ahead = arc-value m v list n c.args.at c.args.next arc (arc_cost m v) in
     let behind = arc-value m v list n c.args.at c.args.next arc (turned true (arc_cost m v)) in
     record {
-      ahead = c.extend.ensures (arc_cost m v) (vehicle_at m v).start (line_nodes m v list) n h.ahead arc.inside (omega (arith, ints, a.value, a.not_negative, a.bound, ahead));
-      behind = c.extend-2.ensures (turned true (arc_cost m v)) (vehicle_at m v).start (line_nodes m v list) n h.behind arc.inside (omega (arith, ints, b.value, b.not_negative, b.bound, behind));
+      ahead = c.extend.ensures (arc_cost m v) (vehicle_at m v).start (line_nodes m v list)
+          n h.ahead arc.inside (omega (arith, ints, a.value, a.not_negative, a.bound, ahead));
+      behind = c.extend-2.ensures (turned true (arc_cost m v)) (vehicle_at m v).start (line_nodes m v list)
+          n h.behind arc.inside (omega (arith, ints, b.value, b.not_negative, b.bound, behind));
     }

@@ -23,5 +23,6 @@ returns-clause-value c model v list h =
     let place = c.requires.place in
     let b = c.between.ensures in
     let kept = b.value (arc_cost model v) (vehicle_at model v).start (line_nodes model v list) h.ahead in
-    let same = stretch-kept model v list c.args.front c.args.behind c.requires.order (omega (arith, long, many, nodes, place)) (omega (arith, long, many, nodes, some)) in
+    let same = stretch-kept model v list c.args.front c.args.behind c.requires.order
+    (omega (arith, long, many, nodes, place)) (omega (arith, long, many, nodes, some)) in
     omega (arith, ints, kept, same, b.range.at_least, b.range.at_most)

@@ -42,6 +42,7 @@ returns-clause-no_less c t low high =
     let put = put-told model v (without_two (route lists v) at.pickup at.delivery) c.args.s t (pair_at model c.args.self.now.p)
     c.costs_of.result.model.now c.costs_of.result.vehicle (without_two c.list.result.now at.pickup at.delivery) c.pair-pair.result
     costs.model costs.vehicle (ap (λ (l : List ℕ). without_two l at.pickup at.delivery) c.list.ensures.value) c.pair-pair.ensures.value in
-    back-no-less model lists c.args.self.now.p c.args.s t v at.pickup at.delivery c.args.asked.bound read (once-valid model lists c.args.self.now.lists.stands.valid) c.args.self.now.places c.args.self.now.in_turn
+    back-no-less model lists c.args.self.now.p c.args.s t v at.pickup at.delivery c.args.asked.bound read
+    (once-valid model lists c.args.self.now.lists.stands.valid) c.args.self.now.places c.args.self.now.in_turn
     (omega (arith, ints, left.value, left.range.low, left.range.high))
     (subst (λ d. c.args.asked.bound ≤ℤ (read +ℤ d)) put (c.first_in_rest.ensures.no_less t low high))

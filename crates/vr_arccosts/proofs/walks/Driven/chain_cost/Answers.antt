@@ -40,11 +40,13 @@ returns-clause-value c =
     let as_many = c.args.self.now.have.as_many in
     let many = c.args.self.now.have.many in
     let other = c.requires.other in
-    let kept = along-at model c.args.self.now.routes.now.lists c.args.self.now.along.now w c.index-along-w.result c.args.self.now.have.along (omega (arith, as_many, many)) (omega (arith, as_many, other)) c.index-along-w.is in
+    let kept = along-at model c.args.self.now.routes.now.lists c.args.self.now.along.now w c.index-along-w.result
+    c.args.self.now.have.along (omega (arith, as_many, many)) (omega (arith, as_many, other)) c.index-along-w.is in
     let chain : List ℕ = chain_of c.args.reversed list c.args.from c.args.to in
     let a = c.chain.ensures in
     let value = a.value model w list kept c.requires.within in
-    let costs : (vehicle_at model v).costs ≡ (vehicle_at model w).costs = ap (λ x. x.costs) (c.get.ensures.value no_vehicle) ∙ c.if-get.false ∙ ap (λ x. x.costs) (sym (c.get-2.ensures.value no_vehicle)) in
+    let costs : (vehicle_at model v).costs ≡ (vehicle_at model w).costs = ap (λ x. x.costs) (c.get.ensures.value no_vehicle)
+    ∙ c.if-get.false ∙ ap (λ x. x.costs) (sym (c.get-2.ensures.value no_vehicle)) in
     let same = same-costs model v w false chain costs in
     omega (arith, ints, a.range.at_least, a.range.at_most, value, same)
 
@@ -56,9 +58,11 @@ returns-clause-range c =
     let as_many = c.args.self.now.have.as_many in
     let many = c.args.self.now.have.many in
     let other = c.requires.other in
-    let kept = along-at model c.args.self.now.routes.now.lists c.args.self.now.along.now w c.index-along-w.result c.args.self.now.have.along (omega (arith, as_many, many)) (omega (arith, as_many, other)) c.index-along-w.is in
+    let kept = along-at model c.args.self.now.routes.now.lists c.args.self.now.along.now w c.index-along-w.result
+    c.args.self.now.have.along (omega (arith, as_many, many)) (omega (arith, as_many, other)) c.index-along-w.is in
     let few = few-along model w list c.index-along-w.result kept in
     let long = chain-length list c.args.from c.args.to c.requires.order c.requires.within c.args.reversed in
     let within = c.requires.within in
     subst (IsUpTo 1000) (sym (returns-clause-value c))
-    (up-to-few model c.args.self.now.costs.now.well_formed c.args.self.now.costs.now.vehicle c.args.self.now.costs.now.there false (chain_of c.args.reversed list c.args.from c.args.to) (omega (arith, few, long, within)) c.requires.nodes)
+    (up-to-few model c.args.self.now.costs.now.well_formed c.args.self.now.costs.now.vehicle c.args.self.now.costs.now.there
+    false (chain_of c.args.reversed list c.args.from c.args.to) (omega (arith, few, long, within)) c.requires.nodes)

@@ -16,7 +16,8 @@ abbrev first_piece : Piece
 first_piece = Chain 0 0 0 false
 
 pub along-path-requires-clause-nodes : goal.along-path-requires-clause-nodes
-along-path-requires-clause-nodes c = all_at (λ node. node < c.args.self.now.costs.now.model.now.nodes) c.args.self.now.routes.now.lists c.args.pieces.now c.loop-k.k first_piece c.loop-k-test.true c.requires.nodes
+along-path-requires-clause-nodes c = all_at (λ node. node < c.args.self.now.costs.now.model.now.nodes)
+    c.args.self.now.routes.now.lists c.args.pieces.now c.loop-k.k first_piece c.loop-k-test.true c.requires.nodes
 
 pub along-path-requires-clause-at : goal.along-path-requires-clause-at
 along-path-requires-clause-at c =
@@ -55,15 +56,19 @@ loop-k-preserved c =
     }
 
 pub returns-clause-at : goal.returns-clause-at
-returns-clause-at c = c.loop-k.invariant.at ∙ ap (λ ps. last_of c.args.at (joined c.args.self.now.routes.now.lists ps)) (take_all c.loop-k.k c.args.pieces.now c.loop-k-test.false)
+returns-clause-at c = c.loop-k.invariant.at
+    ∙ ap (λ ps. last_of c.args.at (joined c.args.self.now.routes.now.lists ps)) (take_all c.loop-k.k c.args.pieces.now c.loop-k-test.false)
 
 pub returns-clause-cost : goal.returns-clause-cost
-returns-clause-cost c = c.loop-k.invariant.cost ∙ ap (λ ps. path_sum (arc_cost c.args.self.now.costs.now.model.now c.args.self.now.costs.now.vehicle) c.args.at (joined c.args.self.now.routes.now.lists ps)) (take_all c.loop-k.k c.args.pieces.now c.loop-k-test.false)
+returns-clause-cost c = c.loop-k.invariant.cost ∙ ap
+    (λ ps. path_sum (arc_cost c.args.self.now.costs.now.model.now c.args.self.now.costs.now.vehicle) c.args.at (joined c.args.self.now.routes.now.lists ps))
+    (take_all c.loop-k.k c.args.pieces.now c.loop-k-test.false)
 
 pub returns-clause-known : goal.returns-clause-known
 returns-clause-known c =
     let Below : ℕ → Type 0 = λ node. node < c.args.self.now.costs.now.model.now.nodes in
-    subst Below (sym (returns-clause-at c)) (last-below Below c.args.at (joined c.args.self.now.routes.now.lists c.args.pieces.now) c.requires.at c.requires.nodes)
+    subst Below (sym (returns-clause-at c))
+    (last-below Below c.args.at (joined c.args.self.now.routes.now.lists c.args.pieces.now) c.requires.at c.requires.nodes)
 
 pub returns-clause-range : goal.returns-clause-range
 returns-clause-range c =

@@ -42,6 +42,7 @@ returns-clause-value c =
     let before = c.node_before-from.ensures.value in
     let at : last_of c.node_before-from.result nodes ≡ last_of from nodes = ap (λ x. last_of x nodes) before in
     let along : path_sum cost c.node_before-from.result nodes ≡ path_sum cost from nodes = ap (λ x. path_sum cost x nodes) before in
-    let arc : cost c.path_along-path.result.at c.node_behind-to.result ≡ cost (last_of from nodes) to = ap (λ x. cost x c.node_behind-to.result) (p.at ∙ at) ∙ ap (cost (last_of from nodes)) c.node_behind-to.ensures.value in
+    let arc : cost c.path_along-path.result.at c.node_behind-to.result ≡ cost (last_of from nodes) to = ap (λ x. cost x c.node_behind-to.result) (p.at ∙ at)
+    ∙ ap (cost (last_of from nodes)) c.node_behind-to.ensures.value in
     let a = c.cost.ensures in
     omega (arith, ints, p.cost, p.range.low, p.range.high, a.value, a.not_negative, a.bound, along, arc, whole)

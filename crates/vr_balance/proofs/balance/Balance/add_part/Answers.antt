@@ -35,6 +35,7 @@ returns-clause-became c f =
     let joined_is = sum-joined f lists c.args.pieces.now in
     let so_far = c.loop-k.invariant.became f in
     let gone = c.leave.ensures.became lists f in
-    let both = sum-between f list 0 c.loop-k.place c.len.result (omega arith) (let n = c.len.ensures.value in let low = c.loop-k.invariant.low in omega (arith, n, low)) in
+    let both = sum-between f list 0 c.loop-k.place c.len.result (omega arith)
+    (let n = c.len.ensures.value in let low = c.loop-k.invariant.low in omega (arith, n, low)) in
     let whole = sum-all f list c.len.result c.len.ensures.value in
     omega (arith, all, joined_is, so_far, gone, both, whole)

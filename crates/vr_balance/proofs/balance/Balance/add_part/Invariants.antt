@@ -11,6 +11,7 @@ invariant-loop-k l = record {
   room : length l.self.come ≤ length l.fn.self.come + l.k;
   room_too : length l.self.gone ≤ length l.fn.self.gone + l.k;
   within : IsTurnover l.routes.lists l.self;
-  became : (f : ℕ → ℕ) → over_pieces f l.routes.lists l.fn.self.come + (over_pieces f l.routes.lists l.self.gone + over_pieces f l.routes.lists (take l.k l.pieces))
+  became : (f : ℕ → ℕ)
+      → over_pieces f l.routes.lists l.fn.self.come + (over_pieces f l.routes.lists l.self.gone + over_pieces f l.routes.lists (take l.k l.pieces))
       ≡ over_pieces f l.routes.lists l.self.come + (over_pieces f l.routes.lists l.fn.self.gone + sum_by f (slice_range (route l.routes.lists l.v) 0 l.place));
 }

@@ -11,7 +11,9 @@ returns-then-place-from-clause-became c f =
     let chain = c.in-Chain in
     let within = subst (IsWithin lists) chain.is c.requires.piece in
     let here : sum_by f (nodes_of lists c.args.piece) ≡ sum_by f (slice_range (route lists c.args.v) chain.from chain.to) =
-    ap (λ p. sum_by f (nodes_of lists p)) chain.is ∙ (sum-chain f lists chain.vehicle chain.from chain.to chain.reversed ∙ ap (λ v. sum_by f (slice_range (route lists v) chain.from chain.to)) c.if-vehicle-v.true) in
+    ap (λ p. sum_by f (nodes_of lists p)) chain.is
+    ∙ (sum-chain f lists chain.vehicle chain.from chain.to chain.reversed
+    ∙ ap (λ v. sum_by f (slice_range (route lists v) chain.from chain.to)) c.if-vehicle-v.true) in
     let both = sum-between f (route lists c.args.v) c.args.place chain.from chain.to c.if-place-from.true within.1 in
     let gone = c.leave.ensures.became lists f in
     omega (arith, here, both, gone)

@@ -6,4 +6,8 @@ pub returns-in-None-clause-within : goal.returns-in-None-clause-within
 returns-in-None-clause-within c =
     let lists : List (List ℕ) = c.args.routes.now.lists in
     let before = subst (IsTurnover lists) (sym c.self.view_is) c.requires.within in
-    record { come = c.enter.ensures.within lists tt before.come; gone = c.enter.ensures.others_within lists before.gone; apart = c.enter.ensures.apart before.apart }
+    record {
+      come = c.enter.ensures.within lists tt before.come;
+      gone = c.enter.ensures.others_within lists before.gone;
+      apart = c.enter.ensures.apart before.apart;
+    }

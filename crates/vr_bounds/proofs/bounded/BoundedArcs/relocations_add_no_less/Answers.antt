@@ -21,4 +21,5 @@ returns-in-Some-clause-no_less c told t one =
     let facts = of_relocate model lists v a w t one in
     let gap = c.gaps_add_no_less.ensures.no_less told t facts.gap in
     let rest = c.in-Some.ensures.1 in
-    relocate-no-less model lists v a w t c.args.bound left.result base c.node_at.ensures (omega (arith, ints, gap, rest, left.ensures.range.low, left.ensures.range.high, c.ranges.bound)) one
+    relocate-no-less model lists v a w t c.args.bound left.result base c.node_at.ensures
+    (omega (arith, ints, gap, rest, left.ensures.range.low, left.ensures.range.high, c.ranges.bound)) one

@@ -45,7 +45,8 @@ follow-requires-clause-nodes c =
     let well = subst IsWellFormed c.requires.stands.arcs_model c.requires.stands.arcs.well_formed in
     let part = is-part model well lists c.args.change.now c.requires.made.makes.parts_are c.requires.valid c.loop-k.k low in
     let list = c.join_into.ensures ∙ ap (joined lists) c.pieces.ensures.value in
-    subst (λ (m : Model). All (λ node. node < m.nodes) c.join_into.new.row) (sym (ap (λ k. k.model) c.self.view_is)) (subst (All (λ node. node < model.nodes)) (sym list) part.nodes)
+    subst (λ (m : Model). All (λ node. node < m.nodes) c.join_into.new.row)
+    (sym (ap (λ k. k.model) c.self.view_is)) (subst (All (λ node. node < model.nodes)) (sym list) part.nodes)
 
 pub loop-k-preserved : goal.loop-k-preserved
 loop-k-preserved c =
@@ -68,7 +69,8 @@ loop-k-preserved c =
       row = c.follow.ensures.row ∙ list;
       kept = subst (λ (m : Model). ArePuts m v c.follow.new.self) (ap (λ k. k.model) c.self.view_is ∙ sym i.model) c.follow.ensures.puts;
     } in
-    let set = rows-set (IsPutsOf model) no_puts base rows v (joined lists part.pieces) c.follow.new.self i.puts (omega (arith, vehicle, known, many, all_many)) new in
+    let set = rows-set (IsPutsOf model) no_puts base rows v (joined lists part.pieces)
+    c.follow.new.self i.puts (omega (arith, vehicle, known, many, all_many)) new in
     let next : upto lists parts (k + 1) ≡ with_route base v (joined lists part.pieces) =
     ap (upto lists parts) (add-one k) ∙ upto-next lists parts k low ∙ ap (λ w. with_route base w (joined lists part.pieces)) (sym vehicle) in
     record {

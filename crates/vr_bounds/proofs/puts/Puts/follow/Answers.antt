@@ -12,5 +12,6 @@ loop-place-preserved c =
     let here = subst (λ l. MayStand model c.args.driver.vehicle c.args.self.now l c.loop-place.place age) c.as_slice.ensures.value c.age_after.ensures in
     record {
       many = ap length c.push.ensures ∙ length-append c.loop-place.ages (age ∷ []) ∙ ap (λ n. n + 1) i.many;
-      each = rows-push (λ place a. MayStand model c.args.driver.vehicle c.args.self.now c.args.row place a) 0 c.loop-place.ages c.push.new.self age c.loop-place.place i.many i.each here c.push.ensures;
+      each = rows-push (λ place a. MayStand model c.args.driver.vehicle c.args.self.now c.args.row place a)
+          0 c.loop-place.ages c.push.new.self age c.loop-place.place i.many i.each here c.push.ensures;
     }

@@ -18,7 +18,8 @@ loop-place-preserved c =
     record {
       done = λ place low. elim (cases_lt place at) [
         | inl before ↦ (let old = i.done place before in omega (arith, ints, read, less, old))
-        | inr past ↦ (let same : at ≡ place = omega (arith, low, past) in subst (λ k. to_z w64 (of_z w64 new.result) ≤ℤ gap k) same (omega (arith, ints, read, here)))
+        | inr past ↦ (let same : at ≡ place = omega (arith, low, past) in
+            subst (λ k. to_z w64 (of_z w64 new.result) ≤ℤ gap k) same (omega (arith, ints, read, here)))
       ];
       rest = λ place low older. (let old = i.rest place low older in omega (arith, ints, read, less, old));
     }

@@ -7,5 +7,6 @@ use Rattle.vr_bounds.proofs.puts.Puts.lowered.Given as goal
 abbrev pub invariant-loop-place : goal.invariant-loop-place
 invariant-loop-place l = record {
   done : (place : ℕ) → place < l.place → l.least ≤ℤ gap_added l.driver.closed.model.now l.driver.vehicle l.self.row l.node l.node place;
-  rest : (place : ℕ) → place ≤ length l.self.row → age_at l.self place ≤ l.stamp → l.least ≤ℤ gap_added l.driver.closed.model.now l.driver.vehicle l.self.row l.node l.node place;
+  rest : (place : ℕ) → place ≤ length l.self.row → age_at l.self place ≤ l.stamp
+      → l.least ≤ℤ gap_added l.driver.closed.model.now l.driver.vehicle l.self.row l.node l.node place;
 }

@@ -19,7 +19,8 @@ loop-node-preserved c =
     let i = c.loop-node.invariant in
     record {
       many = ap length c.in_ok-push.ensures.ok ∙ length-append c.loop-node.bounds (first ∷ []) ∙ ap (λ n. n + 1) i.many;
-      unknown = rows-push (λ node b. b.stamp ≡ 0) unknown c.loop-node.bounds c.push.new.self first c.loop-node._node i.many i.unknown refl c.in_ok-push.ensures.ok;
+      unknown =
+          rows-push (λ node b. b.stamp ≡ 0) unknown c.loop-node.bounds c.push.new.self first c.loop-node._node i.many i.unknown refl c.in_ok-push.ensures.ok;
     }
 
 pub returns : goal.returns
@@ -30,6 +31,7 @@ returns c =
     let past = c.loop-node-test.false in
     let all : c.loop-node._node ≡ model.nodes = omega (arith, end, past) in
     let ages = c.push-2.ensures ∙ ap (λ l. l ++ 1 ∷ []) c.new-ages.ensures in
-    subst (λ (row : List ℕ). IsPutsOf model c.args.driver.vehicle [] (record { row = row; ages = c.push-2.new.self; clock = 1; bounds = c.loop-node.bounds })) (sym c.new.ensures)
+    subst (λ (row : List ℕ). IsPutsOf model c.args.driver.vehicle []
+    (record { row = row; ages = c.push-2.new.self; clock = 1; bounds = c.loop-node.bounds })) (sym c.new.ensures)
     (subst (λ (ages : List ℕ). IsPutsOf model c.args.driver.vehicle [] (record { row = []; ages = ages; clock = 1; bounds = c.loop-node.bounds })) (sym ages)
     (fresh model c.args.driver.vehicle c.loop-node.bounds (i.many ∙ all) (λ node known. i.unknown node (omega (arith, all, known)))))

@@ -12,6 +12,7 @@ returns-then-least_by-bound-clause-no_less c _ place low =
 pub returns-clause-no_less : goal.returns-clause-no_less
 returns-clause-no_less c enough place low =
     let model : Model = c.args.driver.closed.model.now in
-    let all = subst (λ (row : List ℕ). IsUpTo model c.args.driver.vehicle row c.args.node c.least_by-2.result) c.least_by.ensures.row c.least_by-2.ensures.least in
+    let all = subst (λ (row : List ℕ). IsUpTo model c.args.driver.vehicle row c.args.node c.least_by-2.result)
+    c.least_by.ensures.row c.least_by-2.ensures.least in
     let least = all place low in
     omega (arith, ints, least, enough, c.least_by-2.type_inv, c.ranges.bound)

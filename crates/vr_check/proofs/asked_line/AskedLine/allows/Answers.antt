@@ -9,7 +9,8 @@ returns-then-is_let c =
     let it = c.args.self.now in
     let same : read64 c.args.x ≡ c.args.x = narrow c.args.x c.ranges.x.sfits in
     let lets = sym (c.is_let.ensures ∙ ap (is_let it c.args.k) same) ∙ c.if-is_let.true in
-    c.keeps_fixed_start.ensures ∙ ap (keeps_fixed_start it c.args.k) same ∙ sym (ap (λ b. b && keeps_fixed_start it c.args.k c.args.x) lets) ∙ asked_allows it c.args.k c.args.x c.requires.stop
+    c.keeps_fixed_start.ensures ∙ ap (keeps_fixed_start it c.args.k) same
+    ∙ sym (ap (λ b. b && keeps_fixed_start it c.args.k c.args.x) lets) ∙ asked_allows it c.args.k c.args.x c.requires.stop
 
 pub returns-else-is_let : goal.returns-else-is_let
 returns-else-is_let c =

@@ -7,4 +7,6 @@ use Rattle.vr_check.specs.Plans.{ends_in_time}
 use Rattle.vr_check.proofs.breaks.Taken.all_in_time.Given as goal
 
 abbrev pub invariant-loop-i : goal.invariant-loop-i
-invariant-loop-i l = list_all (ends_in_time (asked_line l.self.of.asked) (plan_of_taken l.self)) (from_to l.i (length (asked_line l.self.of.asked).breaks - 1)) ≡ list_all (ends_in_time (asked_line l.self.of.asked) (plan_of_taken l.self)) (below (length (asked_line l.self.of.asked).breaks - 1))
+invariant-loop-i l =
+    list_all (ends_in_time (asked_line l.self.of.asked) (plan_of_taken l.self)) (from_to l.i (length (asked_line l.self.of.asked).breaks - 1))
+    ≡ list_all (ends_in_time (asked_line l.self.of.asked) (plan_of_taken l.self)) (below (length (asked_line l.self.of.asked).breaks - 1))

@@ -8,4 +8,6 @@ use Rattle.vr_model.specs.deciding.ScheduleTests.{is_placed}
 use Rattle.vr_check.proofs.breaks.Taken.all_placed.Given as goal
 
 abbrev pub invariant-loop-i : goal.invariant-loop-i
-invariant-loop-i l = list_all (is_placed both_sides (asked_line l.self.of.asked) (plan_of_taken l.self)) (from_to l.i (length (asked_line l.self.of.asked).breaks)) ≡ list_all (is_placed both_sides (asked_line l.self.of.asked) (plan_of_taken l.self)) (below (length (asked_line l.self.of.asked).breaks))
+invariant-loop-i l =
+    list_all (is_placed both_sides (asked_line l.self.of.asked) (plan_of_taken l.self)) (from_to l.i (length (asked_line l.self.of.asked).breaks))
+    ≡ list_all (is_placed both_sides (asked_line l.self.of.asked) (plan_of_taken l.self)) (below (length (asked_line l.self.of.asked).breaks))

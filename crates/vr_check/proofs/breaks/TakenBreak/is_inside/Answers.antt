@@ -20,7 +20,21 @@ returns-then-free-from c =
     let plan = plan_of_taken c.args.self.now.taken in
     let next : c.args.k + 1 ≡ suc c.args.k = omega arith in
     let first : int_le (cumul plan c.args.k +ℤ (arc_at line c.args.k).visit) (break_start plan c.args.self.now.i) ≡ true
-    = test_of_le (cumul plan c.args.k +ℤ (arc_at line c.args.k).visit) (break_start plan c.args.self.now.i) (omega (arith, ints, c.if-free-from.true, c.from.ensures, c.from-2.ensures, c.from-3.ensures, c.cumul_at.ensures, c.visit.ensures.value, c.start.ensures, c.cumul_at.type_inv, c.visit.type_inv, c.start.type_inv)) in
+    = test_of_le (cumul plan c.args.k +ℤ (arc_at line c.args.k).visit) (break_start plan c.args.self.now.i) (omega (
+      arith,
+      ints,
+      c.if-free-from.true,
+      c.from.ensures,
+      c.from-2.ensures,
+      c.from-3.ensures,
+      c.cumul_at.ensures,
+      c.visit.ensures.value,
+      c.start.ensures,
+      c.cumul_at.type_inv,
+      c.visit.type_inv,
+      c.start.type_inv,
+    )) in
     ap₂ int_le (wide c.end.result c.end.type_inv ∙ c.end.ensures)
-    (wide c.from-then-free-from.result c.from-then-free-from.type_inv ∙ c.from-then-free-from.ensures ∙ narrow c.cumul_at-then-free-from.result c.cumul_at-then-free-from.type_inv ∙ c.cumul_at-then-free-from.ensures ∙ ap (cumul plan) next)
+    (wide c.from-then-free-from.result c.from-then-free-from.type_inv ∙ c.from-then-free-from.ensures
+    ∙ narrow c.cumul_at-then-free-from.result c.cumul_at-then-free-from.type_inv ∙ c.cumul_at-then-free-from.ensures ∙ ap (cumul plan) next)
     ∙ sym (ap (λ b. b && int_le (break_end line plan c.args.self.now.i) (cumul plan (suc c.args.k))) first)

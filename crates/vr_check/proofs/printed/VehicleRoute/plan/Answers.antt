@@ -11,9 +11,13 @@ invariant_of-asked c =
 pub invariant_of-result : goal.invariant_of-result
 invariant_of-result c =
     let on = c.args.self.now in
-    record { fits = plan_fits on.closed.model.now on.v on.list.now on.route.now on.sound c.args.d c.requires c.get.result.now (c.get.ensures.value no_printed_plan) }
+    record {
+      fits =
+          plan_fits on.closed.model.now on.v on.list.now on.route.now on.sound c.args.d c.requires c.get.result.now (c.get.ensures.value no_printed_plan);
+    }
 
 pub returns : goal.returns
 returns c =
     let on = c.args.self.now in
-    ap₂ (λ list plan. record { model = on.closed.model.now; d = c.args.d; v = on.v; list = list; printed = plan }) on.sound.same (sym (c.get.ensures.value no_printed_plan))
+    ap₂ (λ list plan. record { model = on.closed.model.now; d = c.args.d; v = on.v; list = list; printed = plan })
+    on.sound.same (sym (c.get.ensures.value no_printed_plan))

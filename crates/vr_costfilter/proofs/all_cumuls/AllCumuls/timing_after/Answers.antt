@@ -32,7 +32,8 @@ timing_after-requires-clause-joined c =
         short = (list-of m part.sound.well_formed lists part.sound.before c.splice.result.vehicle).few;
         within = c.pieces.ensures.within;
         spliced = subst (λ ps. IsSplice lists ends.vehicle ps ends.front ends.behind ends.middle.now) joined_is
-            (subst (λ v. IsSplice lists v (part_at parts part.k).pieces ends.front ends.behind ends.middle.now) (sym c.splice.ensures.vehicle) c.splice.ensures.ends);
+            (subst (λ v. IsSplice lists v (part_at parts part.k).pieces ends.front ends.behind ends.middle.now)
+            (sym c.splice.ensures.vehicle) c.splice.ensures.ends);
         used = subst (λ ps. IsUsed m (joined lists ps)) joined_is (used-after m (joined lists (part_at parts part.k).pieces) is c.requires.some);
         few = subst (λ ps. length (joined lists ps) ≤ 1000) joined_is is.few;
       };
@@ -50,7 +51,8 @@ returns-clause-timing c =
 
 pub returns-clause-range : goal.returns-clause-range
 returns-clause-range c =
-    subst (λ ps. IfSome c.timing_after.result (IsTimingOf (length (joined c.args.part.now.routes.now.lists ps) + 2))) c.pieces.ensures.value c.timing_after.ensures.range
+    subst (λ ps. IfSome c.timing_after.result (IsTimingOf (length (joined c.args.part.now.routes.now.lists ps) + 2)))
+    c.pieces.ensures.value c.timing_after.ensures.range
 
 pub returns-clause-known : goal.returns-clause-known
 returns-clause-known c other =
@@ -59,6 +61,10 @@ returns-clause-known c other =
     let some = is_some c.timing_after.result in
     let kept = c.index-kept.result.now in
     let a = subst (λ v. IsTrue some ↔ IsKnown m c.args.d v (route lists v) kept) c.splice.ensures.vehicle c.timing_after.ensures.known in
-    let b = subst (λ k. IsTrue some ↔ IsKnown m c.args.d (part_at c.args.part.now.change.now c.args.part.now.k).vehicle (route lists (part_at c.args.part.now.change.now c.args.part.now.k).vehicle) k) c.index-kept.ensures a in
-    subst (λ k. IsTrue some ↔ IsKnown m c.args.d (part_at c.args.part.now.change.now c.args.part.now.k).vehicle (route lists (part_at c.args.part.now.change.now c.args.part.now.k).vehicle) k)
-    (get_or_default c.self.inside.dimensions.items c.args.d kept other (let view = ap length c.self.view_is in omega (arith, c.requires.dimension, c.requires.kept.many, view)) ∙ ap (λ (l : List (List KeptList)). slice_index_or l c.args.d other) c.self.view_is) b
+    let b = subst (λ k. IsTrue some ↔ IsKnown m c.args.d (part_at c.args.part.now.change.now c.args.part.now.k).vehicle
+    (route lists (part_at c.args.part.now.change.now c.args.part.now.k).vehicle) k) c.index-kept.ensures a in
+    subst (λ k. IsTrue some ↔ IsKnown m c.args.d (part_at c.args.part.now.change.now c.args.part.now.k).vehicle
+    (route lists (part_at c.args.part.now.change.now c.args.part.now.k).vehicle) k)
+    (get_or_default c.self.inside.dimensions.items c.args.d kept other
+    (let view = ap length c.self.view_is in omega (arith, c.requires.dimension, c.requires.kept.many, view))
+    ∙ ap (λ (l : List (List KeptList)). slice_index_or l c.args.d other) c.self.view_is) b

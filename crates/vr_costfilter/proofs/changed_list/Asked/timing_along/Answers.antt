@@ -24,13 +24,20 @@ pub invariant_of-on : goal.invariant_of-on
 invariant_of-on c =
     let asked = c.args.self.now in
     let h = asked.sound in
-    record { sound = record { within = h.within; nodes = record { few = h.few; visits = all-visits asked.guide.now.model.now (joined asked.routes.now.lists asked.pieces.now) h.used.tour.visits } } }
+    record {
+      sound = record {
+        within = h.within;
+        nodes =
+            record { few = h.few; visits = all-visits asked.guide.now.model.now (joined asked.routes.now.lists asked.pieces.now) h.used.tour.visits };
+      };
+    }
 
 pub back_along-requires : goal.back_along-requires
 back_along-requires c = record { step = c.end_step-next.ensures.range; room = omega (arith, ap length c.clear.ensures, c.args.self.now.sound.few) }
 
 -- the vehicle stands at the floor that was found
-standing-read : (guide : Guide) (floor : ℤ) {stage : Stage} → IsIn (pos 0) horizon floor → stage ≡ stage_at_start guide.model.now guide.d guide.v (to_z w64 (of_z w64 floor)) → stage ≡ stage_at_start guide.model.now guide.d guide.v floor
+standing-read : (guide : Guide) (floor : ℤ) {stage : Stage} → IsIn (pos 0) horizon floor
+    → stage ≡ stage_at_start guide.model.now guide.d guide.v (to_z w64 (of_z w64 floor)) → stage ≡ stage_at_start guide.model.now guide.d guide.v floor
 standing-read guide floor range is = is ∙ ap (stage_at_start guide.model.now guide.d guide.v) (read-cumul floor range)
 
 pub along_trail-requires-clause-steps : goal.along_trail-requires-clause-steps
@@ -45,7 +52,9 @@ to_end-requires c = record { stage = stage-more c.args.self.now.guide.now.model.
 pub returns : goal.returns
 returns c =
     let h = c.args.self.now.guide.now.sound in
-    let it = along-timed (back-anew c.clear.ensures c.in_ok-first.ensures.back) c.end_step-next.ensures.value c.in_ok-floor.floor (sym c.in_ok-floor.ensures.value) c.standing-stage.result c.in_ok-gone.gone c.in_ok-end.end (standing-read c.args.self.now.guide.now c.in_ok-floor.floor c.in_ok-floor.ensures.range c.standing-stage.ensures.value)
+    let it = along-timed (back-anew c.clear.ensures c.in_ok-first.ensures.back) c.end_step-next.ensures.value
+    c.in_ok-floor.floor (sym c.in_ok-floor.ensures.value) c.standing-stage.result c.in_ok-gone.gone c.in_ok-end.end
+    (standing-read c.args.self.now.guide.now c.in_ok-floor.floor c.in_ok-floor.ensures.range c.standing-stage.ensures.value)
     (sym c.in_ok-gone.ensures.value) (sym c.in_ok-end.ensures.value) chosen_is_least h.well_formed h.dimension c.requires c.args.self.now.sound.few in
     record { known = sym it.feasible; timing = it.timed.is_timing; range = it.timed.range }
 
@@ -58,16 +67,23 @@ returns-in_err-first c =
 
 pub returns-in_err-floor : goal.returns-in_err-floor
 returns-in_err-floor c =
-    untold c.from_residual-in_err-floor.ensures (floor-unmet (back-anew c.clear.ensures c.in_ok-first.ensures.back) c.end_step-next.ensures.value c.requires (sym c.in_err-floor.ensures.value))
+    untold c.from_residual-in_err-floor.ensures
+    (floor-unmet (back-anew c.clear.ensures c.in_ok-first.ensures.back) c.end_step-next.ensures.value c.requires (sym c.in_err-floor.ensures.value))
 
 pub returns-in_err-gone : goal.returns-in_err-gone
 returns-in_err-gone c =
     let g = c.args.self.now.guide.now in
-    untold c.from_residual-in_err-gone.ensures (gone-unmet (back-anew c.clear.ensures c.in_ok-first.ensures.back) c.end_step-next.ensures.value c.requires c.in_ok-floor.floor (sym c.in_ok-floor.ensures.value) c.standing-stage.result (standing-read c.args.self.now.guide.now c.in_ok-floor.floor c.in_ok-floor.ensures.range c.standing-stage.ensures.value)
+    untold c.from_residual-in_err-gone.ensures
+    (gone-unmet (back-anew c.clear.ensures c.in_ok-first.ensures.back) c.end_step-next.ensures.value
+    c.requires c.in_ok-floor.floor (sym c.in_ok-floor.ensures.value) c.standing-stage.result
+    (standing-read c.args.self.now.guide.now c.in_ok-floor.floor c.in_ok-floor.ensures.range c.standing-stage.ensures.value)
     (ap (option_and_then (to_end g.model.now g.d g.v (runs_of g))) (sym c.in_err-gone.ensures.value)))
 
 pub returns-in_err-end : goal.returns-in_err-end
 returns-in_err-end c =
     let g = c.args.self.now.guide.now in
-    untold c.from_residual-in_err-end.ensures (gone-unmet (back-anew c.clear.ensures c.in_ok-first.ensures.back) c.end_step-next.ensures.value c.requires c.in_ok-floor.floor (sym c.in_ok-floor.ensures.value) c.standing-stage.result (standing-read c.args.self.now.guide.now c.in_ok-floor.floor c.in_ok-floor.ensures.range c.standing-stage.ensures.value)
+    untold c.from_residual-in_err-end.ensures
+    (gone-unmet (back-anew c.clear.ensures c.in_ok-first.ensures.back) c.end_step-next.ensures.value
+    c.requires c.in_ok-floor.floor (sym c.in_ok-floor.ensures.value) c.standing-stage.result
+    (standing-read c.args.self.now.guide.now c.in_ok-floor.floor c.in_ok-floor.ensures.range c.standing-stage.ensures.value)
     (ap (option_and_then (to_end g.model.now g.d g.v (runs_of g))) (sym c.in_ok-gone.ensures.value) ∙ sym c.in_err-end.ensures.value))

@@ -20,5 +20,6 @@ returns-clause-value c lists rows =
     let parts = c.args.change.now in
     read-around c.cost.result (cumul_cost * 4) c.cost.ensures.range (omega arith) ∙ c.cost.ensures.value
     ∙ cost-same s.model c.self.inside.rules s.orders c.deref.result.now (vehicles_of parts) c.deref-2.result.now s.next c.deref-3.result.now
-    (ap (λ s. s.model) c.self.view_is) (c.deref.ensures.value ∙ ap (λ s. s.orders) c.self.view_is) (c.deref-2.ensures.0 ∙ c.vehicles_of-vehicles.ensures) (c.deref-3.ensures.0 ∙ ap (λ s. s.next) c.self.view_is)
+    (ap (λ s. s.model) c.self.view_is) (c.deref.ensures.value ∙ ap (λ s. s.orders) c.self.view_is)
+    (c.deref-2.ensures.0 ∙ c.vehicles_of-vehicles.ensures) (c.deref-3.ensures.0 ∙ ap (λ s. s.next) c.self.view_is)
     ∙ cost-after s.model lists s.orders rows.orders_are parts rows.parts_are s.next rows.rows

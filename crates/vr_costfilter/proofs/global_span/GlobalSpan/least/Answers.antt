@@ -14,20 +14,24 @@ use Rattle.vr_costfilter.proofs.SpreadLemmas.{least-holds, none-least}
 use Rattle.vr_costfilter.proofs.global_span.GlobalSpan.least.Goals as goal
 
 -- what is told of the lists after the change
-told-of : (kept : KeptSpans) (rows : List (List Early)) (parts : List ListAfter) (tours : Tours) → AreSpansKnown kept rows parts tours → AreEarlyParts kept.model tours.lists parts rows
-told-of kept rows parts tours h = record { well_formed = h.stands.well_formed; as_many = h.stands.as_many; parts_are = h.made.makes.parts_are; earlies = h.earlies }
+told-of : (kept : KeptSpans) (rows : List (List Early)) (parts : List ListAfter) (tours : Tours)
+    → AreSpansKnown kept rows parts tours → AreEarlyParts kept.model tours.lists parts rows
+told-of kept rows parts tours h =
+    record { well_formed = h.stands.well_formed; as_many = h.stands.as_many; parts_are = h.made.makes.parts_are; earlies = h.earlies }
 
 pub least-requires-clause-earlies : goal.least-requires-clause-earlies
 least-requires-clause-earlies c =
     let s = c.args.self.now in
     let tours : Tours = c.requires.0 in
     let told = told-of s c.args.earlies.now c.args.change.now tours c.requires.1 in
-    subst (λ (m : Model). AreEarlyInRange m c.args.change.now c.args.earlies.now) (sym (ap (λ s. s.model) c.self.view_is)) (early-range s.model tours.lists c.args.change.now c.args.earlies.now told)
+    subst (λ (m : Model). AreEarlyInRange m c.args.change.now c.args.earlies.now)
+    (sym (ap (λ s. s.model) c.self.view_is)) (early-range s.model tours.lists c.args.change.now c.args.earlies.now told)
 
 pub least-requires-clause-orders : goal.least-requires-clause-orders
 least-requires-clause-orders c =
     let s = c.args.self.now in
-    ranged-same s.model c.self.inside.rules s.orders c.deref.result.now [] [] (ap (λ s. s.model) c.self.view_is) (c.deref.ensures.value ∙ ap (λ s. s.orders) c.self.view_is) refl
+    ranged-same s.model c.self.inside.rules s.orders c.deref.result.now [] []
+    (ap (λ s. s.model) c.self.view_is) (c.deref.ensures.value ∙ ap (λ s. s.orders) c.self.view_is) refl
     (ranged-alone s.model c.requires.0.lists s.orders c.requires.1.stands.orders)
 
 pub returns-then-is_idle-clause-value : goal.returns-then-is_idle-clause-value
@@ -50,7 +54,8 @@ returns-clause-value c tours h =
     let model = ap (λ (s : KeptSpans). s.model) c.self.view_is in
     let told = subst (λ (m : Model). AreEarlyParts m lists parts c.args.earlies.now) (sym model) (told-of c.args.self.now c.args.earlies.now parts tours h) in
     let seen = subst (λ (m : Model). AreAllOrders m lists c.deref.result.now) (sym model)
-    (subst (λ (os : List SortedEnds). AreAllOrders c.args.self.now.model lists os) (sym (c.deref.ensures.value ∙ ap (λ s. s.orders) c.self.view_is)) h.stands.orders) in
+    (subst (λ (os : List SortedEnds). AreAllOrders c.args.self.now.model lists os)
+    (sym (c.deref.ensures.value ∙ ap (λ s. s.orders) c.self.view_is)) h.stands.orders) in
     let least = c.least.ensures.value lists told seen ∙ ap (λ m. global_least m lists parts) model in
     let cost = ap (λ s. s.cost) c.self.view_is in
     let r = c.least.ensures.range in

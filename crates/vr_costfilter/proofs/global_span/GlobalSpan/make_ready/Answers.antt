@@ -13,7 +13,8 @@ pub cost_after-self-inside-requires : goal.cost_after-self-inside-requires
 cost_after-self-inside-requires c =
     let later : KeptSpans = c.write_next.new.self in
     let parts = c.args.change.now in
-    ranged-next later.model c.args.routes.now.lists parts later.orders later.next (rows-like c.args.self.now later c.args.routes.now parts c.requires.change c.in_ok-write_next.ensures.like c.in_ok-write_next.ensures.next)
+    ranged-next later.model c.args.routes.now.lists parts later.orders later.next
+    (rows-like c.args.self.now later c.args.routes.now parts c.requires.change c.in_ok-write_next.ensures.like c.in_ok-write_next.ensures.next)
 
 pub returns-clause-ready : goal.returns-clause-ready
 returns-clause-ready c =
@@ -32,12 +33,16 @@ returns-clause-ready c =
     let rules : Model = c.self.inside.rules in
     let seen : rules ≡ later.model = ap (λ (s : KeptSpans). s.model) view in
     let model : rules ≡ c.args.self.now.model = seen ∙ like.model in
-    let room : length old ≡ length rules.dimensions = ap (λ (s : KeptSpans). length s.next_orders) view ∙ like.room ∙ h.room ∙ ap (λ (m : Model). length m.dimensions) (sym model) in
-    let wrote : AreAllOrders rules lists new = c.write_orders.ensures before (rows-same later.model rules before parts later.orders c.deref.result.now later.next c.deref-2.result.now
+    let room : length old ≡ length rules.dimensions = ap (λ (s : KeptSpans). length s.next_orders) view
+    ∙ like.room ∙ h.room ∙ ap (λ (m : Model). length m.dimensions) (sym model) in
+    let wrote : AreAllOrders rules lists new = c.write_orders.ensures before
+    (rows-same later.model rules before parts later.orders c.deref.result.now later.next c.deref-2.result.now
     seen (c.deref.ensures.value ∙ ap (λ (s : KeptSpans). s.orders) view) (c.deref-2.ensures.0 ∙ ap (λ (s : KeptSpans). s.next) view) now) in
     record {
       prepared = refl;
-      orders = subst (AreAllOrders rules lists) (sym (written old new c.self.inside.next_orders.len (wrote.many ∙ sym room) (sym c.deref_mut.ensures.len ∙ ap length c.deref_mut.ensures.value))) wrote;
+      orders = subst (AreAllOrders rules lists)
+          (sym (written old new c.self.inside.next_orders.len (wrote.many ∙ sym room) (sym c.deref_mut.ensures.len ∙ ap length c.deref_mut.ensures.value)))
+          wrote;
       cost = read ∙ r.value before now ∙ ap (λ (s : KeptSpans). global_cost_of s.model lists) (sym view);
       range = subst IsGlobalCost (sym read) r.range;
     }
@@ -51,5 +56,6 @@ write_orders-requires-clause-rows c =
     let now = rows-like c.args.self.now later c.args.routes.now parts c.requires.change c.in_ok-write_next.ensures.like c.in_ok-write_next.ensures.next in (
       lists,
       rows-same later.model c.self.inside.rules lists parts later.orders c.deref.result.now later.next c.deref-2.result.now
-          (ap (λ (s : KeptSpans). s.model) view) (c.deref.ensures.value ∙ ap (λ (s : KeptSpans). s.orders) view) (c.deref-2.ensures.0 ∙ ap (λ (s : KeptSpans). s.next) view) now,
+          (ap (λ (s : KeptSpans). s.model) view) (c.deref.ensures.value ∙ ap (λ (s : KeptSpans). s.orders) view)
+          (c.deref-2.ensures.0 ∙ ap (λ (s : KeptSpans). s.next) view) now,
     )

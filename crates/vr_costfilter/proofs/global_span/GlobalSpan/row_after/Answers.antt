@@ -13,12 +13,15 @@ pub returns-then-is_idle-clause-kept : goal.returns-then-is_idle-clause-kept
 returns-then-is_idle-clause-kept c =
     let part = part_at c.args.change.now c.args.k in
     let list : List ℕ = joined c.args.routes.now.lists part.pieces in
-    subst (λ (m : Model). IsRow m part.vehicle list _) (ap (λ s. s.model) c.self.view_is) (none-kept c.self.inside.rules (none-pays c.self.inside.rules (sym c.is_idle.ensures ∙ c.if-is_idle.true)) part.vehicle list)
+    subst (λ (m : Model). IsRow m part.vehicle list _) (ap (λ s. s.model) c.self.view_is)
+    (none-kept c.self.inside.rules (none-pays c.self.inside.rules (sym c.is_idle.ensures ∙ c.if-is_idle.true)) part.vehicle list)
 
 pub row_after-requires-clause-change : goal.row_after-requires-clause-change
-row_after-requires-clause-change c = subst (λ (s : KeptSpans). IsValidChange (AreCumulsAt s.model s.cumuls) s.model c.args.routes.now c.args.change.now) (sym c.self.view_is) (spans-cumuls c.args.self.now c.args.routes.now c.args.change.now c.requires.change)
+row_after-requires-clause-change c = subst (λ (s : KeptSpans). IsValidChange (AreCumulsAt s.model s.cumuls) s.model c.args.routes.now c.args.change.now)
+    (sym c.self.view_is) (spans-cumuls c.args.self.now c.args.routes.now c.args.change.now c.requires.change)
 
 pub returns-clause-kept : goal.returns-clause-kept
 returns-clause-kept c =
     let part = part_at c.args.change.now c.args.k in
-    subst (λ (m : Model). IfOk c.row_after.result (IsRow m part.vehicle (joined c.args.routes.now.lists part.pieces))) (ap (λ s. s.model) c.self.view_is) c.row_after.ensures
+    subst (λ (m : Model). IfOk c.row_after.result (IsRow m part.vehicle (joined c.args.routes.now.lists part.pieces)))
+    (ap (λ s. s.model) c.self.view_is) c.row_after.ensures

@@ -17,7 +17,8 @@ loop-k-preserved c =
     let e = c.in_ok-row.ensures in
     let part = part_at c.args.change.now c.loop-k.k in
     let same = c.self-in-loop-k.view_is ∙ e.stays in
-    let rows = subst (AreRowsAfter c.args.self.now.model c.args.routes.now.lists c.args.change.now c.loop-k.k) (sym (ap (λ (s : KeptSpans). s.next) same)) i.next in
+    let rows = subst (AreRowsAfter c.args.self.now.model c.args.routes.now.lists c.args.change.now c.loop-k.k)
+    (sym (ap (λ (s : KeptSpans). s.next) same)) i.next in
     let row = subst (λ (m : Model). IsRow m part.vehicle (joined c.args.routes.now.lists part.pieces) c.in_ok-row.row) i.like.model e.kept in
     record {
       like = record {
@@ -28,7 +29,8 @@ loop-k-preserved c =
         cumuls = ap (λ s. s.cumuls) same ∙ i.like.cumuls;
       };
       unprepared = ap (λ s. s.is_prepared) same ∙ i.unprepared;
-      next = rows-after-push c.args.self.now.model c.args.routes.now.lists c.args.change.now c.loop-k.k c.self-in-loop-k.inside.next.items c.push.new.self.items c.in_ok-row.row rows row c.push.ensures.items;
+      next = rows-after-push c.args.self.now.model c.args.routes.now.lists c.args.change.now c.loop-k.k
+          c.self-in-loop-k.inside.next.items c.push.new.self.items c.in_ok-row.row rows row c.push.ensures.items;
     }
 
 pub returns-clause-next : goal.returns-clause-next
@@ -36,7 +38,8 @@ returns-clause-next c =
     let i = c.loop-k.invariant in
     let parts = c.args.change.now in
     let all : c.loop-k.k ≡ length parts = omega (arith, c.parts-k-end.ensures.value, c.loop-k-test.false, c.loop-k.auto.k-end) in
-    subst (λ (m : Model). AreRowsAfter m c.args.routes.now.lists parts (length parts) c.loop-k.self.next) (sym i.like.model) (subst (λ n. AreRowsAfter c.args.self.now.model c.args.routes.now.lists parts n c.loop-k.self.next) all i.next)
+    subst (λ (m : Model). AreRowsAfter m c.args.routes.now.lists parts (length parts) c.loop-k.self.next) (sym i.like.model)
+    (subst (λ n. AreRowsAfter c.args.self.now.model c.args.routes.now.lists parts n c.loop-k.self.next) all i.next)
 
 pub returns-in_err-row-clause-like : goal.returns-in_err-row-clause-like
 returns-in_err-row-clause-like c = subst (AreLike c.args.self.now) (sym c.row_after.ensures.stays) c.loop-k.invariant.like

@@ -32,7 +32,8 @@ returns-clause-stands c =
       of_model = h.of_model ∙ ap visits same;
       valid = subst (λ m. IsTrue (is_valid m lists)) same c.requires.valid;
       as_many = as_many_lists before parts ∙ h.as_many ∙ ap (λ (m : Model). length m.vehicles) same;
-      orders = subst (λ (m : Model). AreAllOrders m lists c.swap.new.x.items) same (subst (λ (os : List SortedEnds). AreAllOrders c.args.self.now.model lists os) (sym orders) ready.orders);
+      orders = subst (λ (m : Model). AreAllOrders m lists c.swap.new.x.items) same
+          (subst (λ (os : List SortedEnds). AreAllOrders c.args.self.now.model lists os) (sym orders) ready.orders);
       room = ap (λ (os : List SortedEnds). length os) room ∙ h.orders.many ∙ ap (λ (m : Model). length m.dimensions) same;
       cost = read ∙ ap (λ (s : KeptSpans). s.next_cost) view ∙ ready.cost ∙ ap (λ (m : Model). global_cost_of m lists) same;
       range = subst IsGlobalCost (sym read) range;
@@ -40,4 +41,5 @@ returns-clause-stands c =
     }
 
 pub commit-requires : goal.commit-requires
-commit-requires c = subst (λ (s : KeptSpans). IsValidChange (AreCumulsAt s.model s.cumuls) s.model c.args.routes.now c.args.change.now) (sym c.self.view_is) (spans-cumuls c.args.self.now c.args.routes.now c.args.change.now (record { stands = c.requires.stands; made = c.requires.made; valid = c.requires.valid }))
+commit-requires c = subst (λ (s : KeptSpans). IsValidChange (AreCumulsAt s.model s.cumuls) s.model c.args.routes.now c.args.change.now) (sym c.self.view_is)
+    (spans-cumuls c.args.self.now c.args.routes.now c.args.change.now (record { stands = c.requires.stands; made = c.requires.made; valid = c.requires.valid }))

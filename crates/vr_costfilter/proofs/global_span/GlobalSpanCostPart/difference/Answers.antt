@@ -19,7 +19,9 @@ pub cost_after-requires : goal.cost_after-requires
 cost_after-requires c =
     let later : KeptSpans = c.write_next.new.self in
     let parts = c.args.change.now in
-    let rows = rows-like c.args.self.now later c.args.routes.now parts (record { stands = c.requires.stands; made = c.requires.made; valid = c.requires.valid }) c.in_ok-write_next.ensures.like c.in_ok-write_next.ensures.next in
+    let rows = rows-like c.args.self.now later c.args.routes.now parts
+    (record { stands = c.requires.stands; made = c.requires.made; valid = c.requires.valid })
+    c.in_ok-write_next.ensures.like c.in_ok-write_next.ensures.next in
     ranged-next later.model c.args.routes.now.lists parts later.orders later.next rows
 
 pub returns-clause-exact : goal.returns-clause-exact
@@ -27,7 +29,8 @@ returns-clause-exact c =
     let lists : List (List ℕ) = changed c.args.routes.now.lists c.args.change.now in
     let like = c.in_ok-write_next.ensures.like in
     let view = c.self.view_is in
-    let rows = rows-like c.args.self.now c.write_next.new.self c.args.routes.now c.args.change.now (record { stands = c.requires.stands; made = c.requires.made; valid = c.requires.valid }) like c.in_ok-write_next.ensures.next in
+    let rows = rows-like c.args.self.now c.write_next.new.self c.args.routes.now c.args.change.now
+    (record { stands = c.requires.stands; made = c.requires.made; valid = c.requires.valid }) like c.in_ok-write_next.ensures.next in
     let after = c.cost_after.ensures.value c.args.routes.now.lists rows ∙ ap (λ (m : Model). global_cost_of m lists) like.model in
     let before = ap (λ s. s.cost) view ∙ like.cost ∙ c.requires.stands.cost in
     let a = c.cost_after.ensures.range in

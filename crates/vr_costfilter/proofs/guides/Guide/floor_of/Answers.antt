@@ -20,8 +20,10 @@ record IsFound (t s : ℤ) (allowed : Run) (next : Step) (it : ℤ) : Type 0 whe
   pub read : to_z w64 (of_z w64 it) ≡ it
   pub high : to_z w64 (of_z w64 allowed.hi) ≡ allowed.hi
 
-found : (g : Guide) {node : ℕ} {allowed : Run} {next : Step} {t r it : ℤ} → IsStopAt g.model.now node allowed → IsStep g.model.now next → r ≡ t → neg_ℤ (pos (2 ^ 31)) ≤ℤ r → r ≤ℤ pos (2 ^ 31)
-    → it ≡ int_max (to_z w64 (of_z w64 (to_z w64 (of_z w64 (to_z w64 (of_z w64 next.floor) -ℤ to_z w64 (of_z w64 r))) -ℤ to_z w64 (of_z w64 g.slack)))) (to_z w64 (of_z w64 allowed.lo))
+found : (g : Guide) {node : ℕ} {allowed : Run} {next : Step} {t r it : ℤ} → IsStopAt g.model.now node allowed
+    → IsStep g.model.now next → r ≡ t → neg_ℤ (pos (2 ^ 31)) ≤ℤ r → r ≤ℤ pos (2 ^ 31)
+    → it ≡ int_max (to_z w64 (of_z w64 (to_z w64 (of_z w64 (to_z w64 (of_z w64 next.floor) -ℤ to_z w64 (of_z w64 r))) -ℤ to_z w64 (of_z w64 g.slack))))
+    (to_z w64 (of_z w64 allowed.lo))
     → IsFound t (dimension_at g.model.now g.d).slack_max allowed next it
 found g {node} {allowed} {next} {t} {r} {it} stop step same least greatest is =
     let near : IsAround 100000000000 r = record { low = omega (arith, ints, least); high = omega (arith, ints, greatest) } in
@@ -37,12 +39,14 @@ returns-then-floor-allowed-clause-value c =
     let g = c.args.self.now in
     let t = c.transit-transit.ensures in
     let it = found g c.requires.stop c.requires.next t.value t.least t.greatest c.max-floor.ensures.value in
-    sym (floor-not c.args.next.floor (transit g.model.now g.d g.v c.args.node c.args.next.node) (dimension_at g.model.now g.d).slack_max c.args.allowed c.max-floor.result it.value (omega (arith, ints, c.if-floor-allowed.true, it.high, it.read)))
+    sym (floor-not c.args.next.floor (transit g.model.now g.d g.v c.args.node c.args.next.node) (dimension_at g.model.now g.d).slack_max
+    c.args.allowed c.max-floor.result it.value (omega (arith, ints, c.if-floor-allowed.true, it.high, it.read)))
 
 pub returns-clause-value : goal.returns-clause-value
 returns-clause-value c =
     let g = c.args.self.now in
     let t = c.transit-transit.ensures in
     let it = found g c.requires.stop c.requires.next t.value t.least t.greatest c.max-floor.ensures.value in
-    sym (floor-is c.args.next.floor (transit g.model.now g.d g.v c.args.node c.args.next.node) (dimension_at g.model.now g.d).slack_max c.args.allowed (to_z w64 (of_z w64 c.max-floor.result))
+    sym (floor-is c.args.next.floor (transit g.model.now g.d g.v c.args.node c.args.next.node)
+    (dimension_at g.model.now g.d).slack_max c.args.allowed (to_z w64 (of_z w64 c.max-floor.result))
     (record { is = it.read ∙ it.value; most = omega (arith, ints, c.if-floor-allowed.false, it.high, it.read) }))

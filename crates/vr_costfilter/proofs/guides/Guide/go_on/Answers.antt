@@ -23,10 +23,14 @@ returns-clause-value c =
     let x = c.in_ok-cumul.cumul in
     let read = read-cumul x c.in_ok-cumul.ensures.range in
     let costs = c.row_cost-cost.ensures in
-    let sum : to_z w64 (of_z w64 (to_z w64 (of_z w64 stage.soft) +ℤ to_z w64 (of_z w64 c.row_cost-cost.result))) ≡ stage.soft +ℤ c.row_cost-cost.result = omega (arith, ints, costs.low, costs.range.high, c.requires.stage.not_negative, c.requires.stage.bound) in
-    sym (going-as (transit g.model.now g.d g.v stage.at c.args.node) (dimension_at g.model.now g.d).slack_max c.args.node c.args.allowed (option_copied c.args.row) stage
-    (to_z w64 (of_z w64 stage.cumul)) (to_z w64 (of_z w64 c.transit-transit.result)) (to_z w64 (of_z w64 g.slack)) x (read-cumul stage.cumul c.requires.stage.cumul) (arc-read t.value t.least t.greatest) (read-cumul g.slack h.slack_range ∙ h.slack_is)
-    c.in_ok-cumul.ensures.exact (to_z w64 (of_z w64 x)) (to_z w64 (of_z w64 (to_z w64 (of_z w64 stage.soft) +ℤ to_z w64 (of_z w64 c.row_cost-cost.result)))) read
+    let sum : to_z w64 (of_z w64 (to_z w64 (of_z w64 stage.soft) +ℤ to_z w64 (of_z w64 c.row_cost-cost.result))) ≡ stage.soft +ℤ c.row_cost-cost.result =
+    omega (arith, ints, costs.low, costs.range.high, c.requires.stage.not_negative, c.requires.stage.bound) in
+    sym (going-as (transit g.model.now g.d g.v stage.at c.args.node)
+    (dimension_at g.model.now g.d).slack_max c.args.node c.args.allowed (option_copied c.args.row) stage
+    (to_z w64 (of_z w64 stage.cumul)) (to_z w64 (of_z w64 c.transit-transit.result)) (to_z w64 (of_z w64 g.slack)) x
+    (read-cumul stage.cumul c.requires.stage.cumul) (arc-read t.value t.least t.greatest) (read-cumul g.slack h.slack_range ∙ h.slack_is)
+    c.in_ok-cumul.ensures.exact (to_z w64 (of_z w64 x))
+    (to_z w64 (of_z w64 (to_z w64 (of_z w64 stage.soft) +ℤ to_z w64 (of_z w64 c.row_cost-cost.result)))) read
     (sum ∙ ap (λ y. stage.soft +ℤ y) (costs.value ∙ ap (row_cost (option_copied c.args.row)) read)))
 
 pub returns-in_err-cumul-clause-value : goal.returns-in_err-cumul-clause-value
@@ -35,8 +39,10 @@ returns-in_err-cumul-clause-value c =
     let h = c.args.self.now.sound in
     let stage = c.args.stage in
     let t = c.transit-transit.ensures in
-    c.from_residual.ensures ∙ sym (stuck-as (transit g.model.now g.d g.v stage.at c.args.node) (dimension_at g.model.now g.d).slack_max c.args.node c.args.allowed (option_copied c.args.row) stage
-    (to_z w64 (of_z w64 stage.cumul)) (to_z w64 (of_z w64 c.transit-transit.result)) (to_z w64 (of_z w64 g.slack)) (read-cumul stage.cumul c.requires.stage.cumul) (arc-read t.value t.least t.greatest) (read-cumul g.slack h.slack_range ∙ h.slack_is)
+    c.from_residual.ensures ∙ sym (stuck-as (transit g.model.now g.d g.v stage.at c.args.node)
+    (dimension_at g.model.now g.d).slack_max c.args.node c.args.allowed (option_copied c.args.row) stage
+    (to_z w64 (of_z w64 stage.cumul)) (to_z w64 (of_z w64 c.transit-transit.result)) (to_z w64 (of_z w64 g.slack))
+    (read-cumul stage.cumul c.requires.stage.cumul) (arc-read t.value t.least t.greatest) (read-cumul g.slack h.slack_range ∙ h.slack_is)
     (sym c.in_err-cumul.ensures.known))
 
 pub returns-clause-range : goal.returns-clause-range

@@ -10,7 +10,8 @@ use Rattle.vr_costfilter.proofs.guides.Guide.of.Goals as goal
 pub evaluator_of-requires-clause-vehicle : goal.evaluator_of-requires-clause-vehicle
 evaluator_of-requires-clause-vehicle c =
     let is = c.args.closed.well_formed.each_dimension c.args.d no_dimension c.requires.known.dimension in
-    subst (λ (x : Dimension). c.args.v < length x.vehicle_evaluators) (c.get.ensures.value no_dimension) (omega (arith, is.evaluator_of_each_vehicle, c.requires.vehicle))
+    subst (λ (x : Dimension). c.args.v < length x.vehicle_evaluators) (c.get.ensures.value no_dimension)
+    (omega (arith, is.evaluator_of_each_vehicle, c.requires.vehicle))
 
 pub evaluator_of-requires-clause-numbers : goal.evaluator_of-requires-clause-numbers
 evaluator_of-requires-clause-numbers c =

@@ -24,8 +24,10 @@ returns-clause-value c =
     let read = read-cumul x c.requires.cumul in
     let costs = c.row_cost.ensures in
     let soft = read-around c.row_cost.result cumul_cost costs.range (omega arith) ∙ costs.value
-    ∙ ap₂ (λ o z. row_cost o z) (c.of_key.ensures.value ∙ ap (λ (d : Dimension). row_of d.starts c.args.self.now.v) (sym (c.get-dimension.ensures.value no_dimension))) read in
-    ap₂ (λ (n : ℕ) (y : ℤ). (let s : Stage = record { at = n; cumul = y; soft = to_z w64 (of_z w64 c.row_cost.result) } in s)) (ap (λ (w : Vehicle). w.start) (sym (c.get.ensures.value no_vehicle))) read
+    ∙ ap₂ (λ o z. row_cost o z)
+    (c.of_key.ensures.value ∙ ap (λ (d : Dimension). row_of d.starts c.args.self.now.v) (sym (c.get-dimension.ensures.value no_dimension))) read in
+    ap₂ (λ (n : ℕ) (y : ℤ). (let s : Stage = record { at = n; cumul = y; soft = to_z w64 (of_z w64 c.row_cost.result) } in s))
+    (ap (λ (w : Vehicle). w.start) (sym (c.get.ensures.value no_vehicle))) read
     ∙ ap (λ (y : ℤ). (let s : Stage = record { at = (vehicle_at c.args.self.now.model.now c.args.self.now.v).start; cumul = x; soft = y } in s)) soft
 
 pub returns-clause-range : goal.returns-clause-range

@@ -54,6 +54,7 @@ returns-clause-value c =
     let t : ℤ = transit g.model.now g.d g.v stage.at step.node in
     let s : ℤ = (dimension_at g.model.now g.d).slack_max in
     let allowed = ap₂ (λ (x y : ℤ). (let r : Run = record { lo = x; hi = y } in r)) (read-cumul step.floor c.requires.step.floor)
-    (read-cumul (slice_index_or g.visits.now step.node first_run).hi hi ∙ ap (λ (r : Run). r.hi) (get_or_default g.visits.now step.node first_run no_run (known g step c.requires.step))) in
+    (read-cumul (slice_index_or g.visits.now step.node first_run).hi hi
+    ∙ ap (λ (r : Run). r.hi) (get_or_default g.visits.now step.node first_run no_run (known g step c.requires.step))) in
     let row = c.row_of-row.ensures.value ∙ ap (λ (x : Dimension). row_of x.nodes step.node) (sym (c.get-dimension.ensures.value no_dimension)) in
     c.go_on.ensures.value ∙ ap₂ (λ (r : Run) (o : Option StopRow). go_on t s step.node r o stage) allowed row

@@ -15,4 +15,5 @@ pub returns : goal.returns
 returns c =
     let g = c.args.self.now in
     let t = c.transit-transit.ensures in
-    through-read c.requires.rest t.value t.least t.greatest c.requires.way g.finish.node (vehicle_at g.model.now g.v).end c.max.result c.min.result g.sound.end_is c.max.ensures.value c.min.ensures.value
+    through-read c.requires.rest t.value t.least t.greatest c.requires.way g.finish.node
+    (vehicle_at g.model.now g.v).end c.max.result c.min.result g.sound.end_is c.max.ensures.value c.min.ensures.value

@@ -20,7 +20,10 @@ invariant_of-tour c =
     let m = c.args.closed.model.now in
     let lists : List (List ℕ) = c.args.routes.now.lists in
     let many = are_lists-count m lists (are-lists m lists c.requires.valid) in
-    record { sound = tour-of m c.loop-v.v (route lists c.loop-v.v) (omega (arith, many, c.vehicles-v-end.ensures.value, c.loop-v-test.true)) (list-of m c.args.closed.well_formed lists c.requires.valid c.loop-v.v) c.list.result.now c.list.ensures.value }
+    record {
+      sound = tour-of m c.loop-v.v (route lists c.loop-v.v) (omega (arith, many, c.vehicles-v-end.ensures.value, c.loop-v-test.true))
+          (list-of m c.args.closed.well_formed lists c.requires.valid c.loop-v.v) c.list.result.now c.list.ensures.value;
+    }
 
 pub loop-v-preserved : goal.loop-v-preserved
 loop-v-preserved c =
@@ -32,7 +35,8 @@ loop-v-preserved c =
     let new = c.write_list.new.kept in
     let is = subst (λ l. IsKept m c.args.d c.loop-v.v l new) c.list.ensures.value c.write_list.ensures.kept in
     let room : HasRoom (vehicle_at m c.loop-v.v).schedule new =
-    c.write_list.ensures.room ∙ subst (λ (w : Vehicle). HasRoom w.schedule c.in_ok-kept.kept) (sym (c.get.ensures.value no_vehicle)) c.in_ok-kept.ensures.room in
+    c.write_list.ensures.room
+    ∙ subst (λ (w : Vehicle). HasRoom w.schedule c.in_ok-kept.kept) (sym (c.get.ensures.value no_vehicle)) c.in_ok-kept.ensures.room in
     rw c.in_ok-push.ensures.items (record {
       many = length-append c.loop-v.lists.items _ ∙ ap (λ n. n + 1) i.many;
       each = λ v other low. each-push P c.loop-v.lists.items new i.each (subst (λ n. P n new) (sym i.many) is) v other low;

@@ -9,6 +9,7 @@ use Rattle.vr_costfilter.proofs.kept.KeptCumuls.open.Given as goal
 abbrev pub invariant-loop-v : goal.invariant-loop-v
 invariant-loop-v l = record {
   many : length l.lists.items ≡ l.v;
-  each : (v : ℕ) (other : KeptList) → v < length l.lists.items → IsKept l.closed.model.now l.d v (route l.routes.lists v) (slice_index_or l.lists.items v other);
+  each : (v : ℕ) (other : KeptList) → v < length l.lists.items
+      → IsKept l.closed.model.now l.d v (route l.routes.lists v) (slice_index_or l.lists.items v other);
   room : (v : ℕ) (other : KeptList) → v < length l.lists.items → HasRoom (vehicle_at l.closed.model.now v).schedule (slice_index_or l.lists.items v other);
 }

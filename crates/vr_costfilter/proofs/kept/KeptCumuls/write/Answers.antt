@@ -11,4 +11,5 @@ returns-then-v-len-clause-kept c lists h known =
     let under : c.args.tour.now.v < length c.self.inside.lists.items = omega (arith, c.len.ensures, c.if-v-len.true) in
     let k = c.self.inside.lists.items in
     kept-set m c.args.d lists k c.args.tour.now.v c.args.tour.now.list.now c.write_list.new.kept old known under c.write_list.ensures.kept
-    (c.write_list.ensures.room ∙ (ap (λ (x : KeptList). length x.ends.items) c.index_mut.ensures.value ∙ old.room c.args.tour.now.v c.index_mut.result.now under))
+    (c.write_list.ensures.room
+    ∙ (ap (λ (x : KeptList). length x.ends.items) c.index_mut.ensures.value ∙ old.room c.args.tour.now.v c.index_mut.result.now under))

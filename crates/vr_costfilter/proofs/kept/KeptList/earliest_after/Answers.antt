@@ -14,21 +14,28 @@ after-requires-clause-allows c =
     let g = c.args.asked.now.guide.now in
     let new : List ℕ = joined c.args.asked.now.routes.now.lists c.args.asked.now.pieces.now in
     let by = line-allows g.model.now g.d g.v (runs_of g) c.requires.by.runs new c.args.asked.now.sound.used.tour in
-    subst (λ (l : Line). AllowsRuns g.model.now g.d g.v (runs_of g) new l) (sym (ap (λ rule. narrowed rule (line g.model.now g.d g.v new)) c.requires.by.rule_is)) by
+    subst (λ (l : Line). AllowsRuns g.model.now g.d g.v (runs_of g) new l)
+    (sym (ap (λ rule. narrowed rule (line g.model.now g.d g.v new)) c.requires.by.rule_is)) by
 
 pub after-requires-clause-known : goal.after-requires-clause-known
 after-requires-clause-known c =
     let g = c.args.asked.now.guide.now in
     let many = c.are_of.ensures.0 c.if-not-are_of.false in
     let list = ap length c.list-list.ensures.value in
-    record { stages = (c.requires.of_old.earliest c.requires.by.rule_is (runs_of g) c.requires.by.runs).told (omega (arith, many, list)); many = omega (arith, many, list); few = c.args.asked.now.sound.short }
+    record {
+      stages = (c.requires.of_old.earliest c.requires.by.rule_is (runs_of g) c.requires.by.runs).told (omega (arith, many, list));
+      many = omega (arith, many, list);
+      few = c.args.asked.now.sound.short;
+    }
 
 pub returns-clause-known : goal.returns-clause-known
 returns-clause-known c feasible =
     let g = c.args.asked.now.guide.now in
     let many = c.are_of.ensures.0 c.if-not-are_of.false in
-    let list = ap length c.list-list.ensures.value in
-    (λ _. omega (arith, many, list), λ _. c.after.ensures.known ∙ chosen-feasible g.model.now g.d g.v (joined c.args.asked.now.routes.now.lists c.args.asked.now.pieces.now) feasible)
+    let list = ap length c.list-list.ensures.value in (
+      λ _. omega (arith, many, list),
+      λ _. c.after.ensures.known ∙ chosen-feasible g.model.now g.d g.v (joined c.args.asked.now.routes.now.lists c.args.asked.now.pieces.now) feasible,
+    )
 
 pub returns-then-not-are_of-clause-known : goal.returns-then-not-are_of-clause-known
 returns-then-not-are_of-clause-known c feasible =

@@ -19,7 +19,8 @@ use Rattle.vr_costfilter.proofs.TightLemmas.{chosen-feasible, ends-timed}
 use Rattle.vr_costfilter.proofs.kept.KeptList.tight_after.Goals as goal
 
 -- what is kept first, by any other name
-told-ways : (ends : List KeptTightWays) (first : KeptTightWays) (n : ℕ) → 0 < length ends → first ≡ slice_index_or ends 0 first → length first.ways.items ≡ n + 1 → (other : KeptTightWays) → length (slice_index_or ends 0 other).ways.items ≡ n + 1
+told-ways : (ends : List KeptTightWays) (first : KeptTightWays) (n : ℕ) → 0 < length ends → first ≡ slice_index_or ends 0 first
+    → length first.ways.items ≡ n + 1 → (other : KeptTightWays) → length (slice_index_or ends 0 other).ways.items ≡ n + 1
 told-ways ends first n some is many other = subst (λ (k : KeptTightWays). length k.ways.items ≡ n + 1) (is ∙ get_or_default ends 0 first other some) many
 
 pub ends_of-ends-requires-clause-kept : goal.ends_of-ends-requires-clause-kept
@@ -28,7 +29,8 @@ ends_of-ends-requires-clause-kept c =
     let many = c.has_ways.ensures.0 c.if-not-has_ways.false in
     let list = ap length c.list-list.ensures.value in
     let some : 0 < length c.args.self.now.ends.items = (let some = some_from_test _ _ c.if-is_empty.false c.is_empty.ensures in omega (arith, some)) in
-    let is = subst (AreKeptWays g.model.now g.d g.v (route c.args.asked.now.routes.now.lists g.v)) (sym c.index-kept.ensures) (c.requires.kept.of_old.ends.first c.index-kept.result.now some) in
+    let is = subst (AreKeptWays g.model.now g.d g.v (route c.args.asked.now.routes.now.lists g.v))
+    (sym c.index-kept.ensures) (c.requires.kept.of_old.ends.first c.index-kept.result.now some) in
     is.ways (omega (arith, many, list))
 
 pub timing_between-requires-clause-allows : goal.timing_between-requires-clause-allows
@@ -53,7 +55,10 @@ timing_between-requires-clause-ends c =
     let by = line-allows g.model.now g.d g.v (runs_of g) c.requires.kept.by.runs list c.args.asked.now.sound.used.tour in
     let ends = c.ends_of-ends.result in
     let start = c.ends_of-ends.ensures.start in
-    record { start = start-in g.model.now g.d g.v (runs_of g) list L by ends.start ends.last start; last = end-in g.model.now g.d g.v (runs_of g) list L by ends.start ends.last start }
+    record {
+      start = start-in g.model.now g.d g.v (runs_of g) list L by ends.start ends.last start;
+      last = end-in g.model.now g.d g.v (runs_of g) list L by ends.start ends.last start;
+    }
 
 -- told by its ends alone
 pub returns-then-asked : goal.returns-then-asked
@@ -68,13 +73,21 @@ returns-then-asked c =
     let told = c.ends_of-ends.ensures in
     let start = start-in m g.d g.v (runs_of g) list L by ends.start ends.last told.start in
     let last = end-in m g.d g.v (runs_of g) list L by ends.start ends.last told.start in
-    let timed = ends-timed m g.d g.v list c.requires.kept.by.rule_is c.requires.feasible ends.start ends.last told.last told.start (c.args.asked.now.guide.now.sound.hard c.if-asked.true) start last
+    let timed = ends-timed m g.d g.v list c.requires.kept.by.rule_is c.requires.feasible ends.start
+    ends.last told.last told.start (c.args.asked.now.guide.now.sound.hard c.if-asked.true) start last
     (to_z w64 (of_z w64 ends.start)) (to_z w64 (of_z w64 ends.last)) (read-cumul ends.start start) (read-cumul ends.last last) in
     let many = c.has_ways.ensures.0 c.if-not-has_ways.false in
     let length_is = ap length c.list-list.ensures.value in
     let ways : length c.index-kept.result.now.ways.items ≡ length (route c.args.asked.now.routes.now.lists g.v) + 1 = omega (arith, many, length_is) in
     record {
-      known = (λ _. record { room = some; ways = told-ways c.args.self.now.ends.items c.index-kept.result.now (length (route c.args.asked.now.routes.now.lists g.v)) some c.index-kept.ensures ways }, λ _. refl);
+      known = (
+        λ _. record {
+          room = some;
+          ways = told-ways c.args.self.now.ends.items c.index-kept.result.now
+              (length (route c.args.asked.now.routes.now.lists g.v)) some c.index-kept.ensures ways;
+        },
+        λ _. refl,
+      );
       timing = timed.is_timing;
       range = timed.range;
     }
@@ -87,7 +100,11 @@ returns-clause-known c =
     let many = c.has_ways.ensures.0 c.if-not-has_ways.false in
     let length_is = ap length c.list-list.ensures.value in
     let ways : length c.index-kept.result.now.ways.items ≡ length (route c.args.asked.now.routes.now.lists g.v) + 1 = omega (arith, many, length_is) in (
-      λ _. record { room = some; ways = told-ways c.args.self.now.ends.items c.index-kept.result.now (length (route c.args.asked.now.routes.now.lists g.v)) some c.index-kept.ensures ways },
+      λ _. record {
+        room = some;
+        ways =
+            told-ways c.args.self.now.ends.items c.index-kept.result.now (length (route c.args.asked.now.routes.now.lists g.v)) some c.index-kept.ensures ways;
+      },
       λ _. c.timing_between.ensures.known ∙ chosen-feasible g.model.now g.d g.v list c.requires.feasible,
     )
 
@@ -101,7 +118,8 @@ returns-then-not-has_ways-clause-known c =
     let length_is = ap length c.list-list.ensures.value in (
       λ e. absurd (false≢true e),
       λ told. (let many : length c.index-kept.result.now.ways.items ≡ length (route c.args.asked.now.routes.now.lists c.args.asked.now.guide.now.v) + 1 =
-          subst (λ (k : KeptTightWays). length k.ways.items ≡ length (route c.args.asked.now.routes.now.lists c.args.asked.now.guide.now.v) + 1) (sym c.index-kept.ensures) (told.ways c.index-kept.result.now) in
+          subst (λ (k : KeptTightWays). length k.ways.items ≡ length (route c.args.asked.now.routes.now.lists c.args.asked.now.guide.now.v) + 1)
+          (sym c.index-kept.ensures) (told.ways c.index-kept.result.now) in
           absurd (false≢true (sym c.if-not-has_ways.true ∙ c.has_ways.ensures.1 (omega (arith, many, length_is))))),
     )
 

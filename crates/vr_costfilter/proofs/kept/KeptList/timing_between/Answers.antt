@@ -15,8 +15,10 @@ timing_from-requires-clause-allows c =
     let a = c.requires.ends.last in
     let b = c.requires.kept.of_old.between.last in
     let same : c.args.ends.last ≡ c.args.self.now.between.last = omega (arith, ints, c.if-self-ends.true, a.at_least, a.at_most, b.at_least, b.at_most) in
-    let x = subst (λ (e : ℤ). AllowsRuns g.model.now g.d g.v (between_runs (runs_of g) c.args.ends.start e) new (chosen_line g.model.now g.d g.v new)) same c.requires.allows in
-    subst (λ (s : ℤ). AllowsRuns g.model.now g.d g.v (between_runs (runs_of g) s c.args.self.now.between.last) new (chosen_line g.model.now g.d g.v new)) (sym (read-cumul c.args.ends.start c.requires.ends.start)) x
+    let x = subst (λ (e : ℤ). AllowsRuns g.model.now g.d g.v (between_runs (runs_of g) c.args.ends.start e) new (chosen_line g.model.now g.d g.v new))
+    same c.requires.allows in
+    subst (λ (s : ℤ). AllowsRuns g.model.now g.d g.v (between_runs (runs_of g) s c.args.self.now.between.last) new (chosen_line g.model.now g.d g.v new))
+    (sym (read-cumul c.args.ends.start c.requires.ends.start)) x
 
 pub timing_from-requires-clause-many : goal.timing_from-requires-clause-many
 timing_from-requires-clause-many c =

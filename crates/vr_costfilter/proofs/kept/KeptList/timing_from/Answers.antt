@@ -15,7 +15,10 @@ pub invariant_of-asked : goal.invariant_of-asked
 invariant_of-asked c =
     let asked = c.args.asked.now in
     let e = c.between-kept.ensures in
-    record { sound = of-guide c.between-kept.result e.model e.dimension e.vehicle e.runs (λ model d v runs. AreJoined model v asked.routes.now.lists asked.pieces.now asked.splice) asked.sound }
+    record {
+      sound = of-guide c.between-kept.result e.model e.dimension e.vehicle e.runs
+          (λ model d v runs. AreJoined model v asked.routes.now.lists asked.pieces.now asked.splice) asked.sound;
+    }
 
 pub after-requires-clause-allows : goal.after-requires-clause-allows
 after-requires-clause-allows c =
@@ -24,8 +27,10 @@ after-requires-clause-allows c =
     let e = c.between-kept.ensures in
     let s = c.args.start in
     let list : List ℕ = new_list c.args.asked.now in
-    of-guide c.between-kept.result e.model e.dimension e.vehicle e.runs (λ model d v runs. AllowsRuns model d v (starting runs (only (to_z w64 (of_z w64 s)))) list (chosen_line model d v list))
-    (subst (λ (x : ℤ). AllowsRuns g.model.now g.d g.v (between_runs (runs_of g) x ends.last) list (chosen_line g.model.now g.d g.v list)) (sym (read-cumul s c.requires.start)) c.requires.allows)
+    of-guide c.between-kept.result e.model e.dimension e.vehicle e.runs
+    (λ model d v runs. AllowsRuns model d v (starting runs (only (to_z w64 (of_z w64 s)))) list (chosen_line model d v list))
+    (subst (λ (x : ℤ). AllowsRuns g.model.now g.d g.v (between_runs (runs_of g) x ends.last) list (chosen_line g.model.now g.d g.v list))
+    (sym (read-cumul s c.requires.start)) c.requires.allows)
 
 pub after-requires-clause-known : goal.after-requires-clause-known
 after-requires-clause-known c =
@@ -34,9 +39,14 @@ after-requires-clause-known c =
     let lists : List (List ℕ) = asked.routes.now.lists in
     let by = c.requires.kept.by in
     of-guide c.between-kept.result e.model e.dimension e.vehicle e.runs (λ model d v runs. AreKnownSteps model d v runs (route lists v) c.args.self.now.steps)
-    (record { stages = (c.requires.kept.of_old.tight by.rule_is (runs_of asked.guide.now) by.runs).told (omega (arith, c.requires.many)); many = c.requires.many; few = asked.sound.short })
+    (record {
+      stages = (c.requires.kept.of_old.tight by.rule_is (runs_of asked.guide.now) by.runs).told (omega (arith, c.requires.many));
+      many = c.requires.many;
+      few = asked.sound.short;
+    })
 
 pub returns : goal.returns
 returns c =
     let e = c.between-kept.ensures in
-    by-guide c.between-kept.result e.model e.dimension e.vehicle e.runs (λ model d v runs. IsTimingFound model d v (new_list c.args.asked.now) c.after.result) c.after.ensures
+    by-guide c.between-kept.result e.model e.dimension e.vehicle e.runs
+    (λ model d v runs. IsTimingFound model d v (new_list c.args.asked.now) c.after.result) c.after.ensures

@@ -18,7 +18,8 @@ invariant_of-write c = record { sound = subst (λ model. AreFewVisits model c.ar
 pub returns-clause-stages : goal.returns-clause-stages
 returns-clause-stages c =
     let e = c.between-between.ensures in
-    by-guide c.between-between.result e.model e.dimension e.vehicle e.runs (λ model d v runs. HasStages model d v runs c.args.on.now.list.now c.write.new.self) c.write.ensures.stages
+    by-guide c.between-between.result e.model e.dimension e.vehicle e.runs
+    (λ model d v runs. HasStages model d v runs c.args.on.now.list.now c.write.new.self) c.write.ensures.stages
 
 pub returns-then-on-clause-told : goal.returns-then-on-clause-told
 returns-then-on-clause-told c soft = absurd (false≢true (sym soft ∙ c.if-on.true))

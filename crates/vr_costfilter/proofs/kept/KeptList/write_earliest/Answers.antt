@@ -23,5 +23,6 @@ returns-clause-kept c =
           (c.write.ensures.all (line g.model.now g.d g.v list) (line-allows g.model.now g.d g.v (runs_of g) c.requires.runs list tour) feasible);
     }
   where
-    told-by : (rule : ScheduleRule) (list : List ℕ) (kept : KeptList) → rule ≡ Earliest → length kept.steps.stages.items ≡ length list + 2 → HasAllAsked rule list kept
+    told-by : (rule : ScheduleRule) (list : List ℕ) (kept : KeptList) → rule ≡ Earliest
+        → length kept.steps.stages.items ≡ length list + 2 → HasAllAsked rule list kept
     told-by rule list kept is many = subst (λ r. HasAllAsked r list kept) (sym is) many

@@ -24,7 +24,9 @@ write_between-requires c =
     let some = some_from_test _ _ c.if-is_empty.false c.is_empty.ensures in
     record {
       ends = omega (arith, many, some);
-      ways = λ other. subst (HasWaysBy g.model.now g.d g.v (runs_of g) c.args.on.now.list.now) (sym (get_or-set_same items 0 c.write_ways.new.kept other (omega (arith, some)))) (record { runs_are = c.requires.runs; keeps = c.write_ways.ensures });
+      ways = λ other. subst (HasWaysBy g.model.now g.d g.v (runs_of g) c.args.on.now.list.now)
+          (sym (get_or-set_same items 0 c.write_ways.new.kept other (omega (arith, some))))
+          (record { runs_are = c.requires.runs; keeps = c.write_ways.ensures });
       none = c.forget.ensures.none;
       between = c.forget.ensures.between;
     }
@@ -37,7 +39,9 @@ returns-then-is_empty-clause-kept c =
       tight = λ rule runs are. stages-none g.model.now g.d g.v _ c.args.on.now.list.now _ (omega (arith, c.forget.ensures.none));
       between = c.forget.ensures.between;
       ends = c.forget.ensures.ends g.model.now g.d g.v c.args.on.now.list.now;
-      whole = λ tour one feasible room. absurd (no-room (vehicle_at g.model.now g.v).schedule (length c.forget.new.self.ends.items) c.requires.rule_is room (let none = none_from_test _ _ c.if-is_empty.true c.is_empty.ensures in omega (arith, none)));
+      whole = λ tour one feasible room.
+          absurd (no-room (vehicle_at g.model.now g.v).schedule (length c.forget.new.self.ends.items) c.requires.rule_is
+          room (let none = none_from_test _ _ c.if-is_empty.true c.is_empty.ensures in omega (arith, none)));
     }
   where
     no-room : (rule : ScheduleRule) (n : ℕ) → rule ≡ Tight → n ≡ cond (is_tight rule) 1 0 → n ≡ 0 → ⊥
@@ -49,16 +53,22 @@ returns-clause-kept c =
     let list = c.args.on.now.list.now in
     let items : List KeptTightWays = c.forget.new.self.ends.items in
     let new : KeptTightWays = c.write_ways.new.kept in
-    let is : AreKeptWays g.model.now g.d g.v list new = record { ways = λ _. record { runs = runs_of g; has = record { runs_are = c.requires.runs; keeps = c.write_ways.ensures } } } in
+    let is : AreKeptWays g.model.now g.d g.v list new = record {
+      ways = λ _. record { runs = runs_of g; has = record { runs_are = c.requires.runs; keeps = c.write_ways.ensures } };
+    } in
     record {
       earliest = λ rule runs are. absurd (other-rule (sym rule ∙ c.requires.rule_is));
       tight = λ rule runs are. stages-between g.model.now g.d g.v (runs_of g) runs c.requires.runs are _ _ list _ c.write_between.ensures.stages;
       between = c.write_between.ensures.between;
       ends = subst (HaveKeptWays g.model.now g.d g.v list) (sym c.write_between.ensures.ends) (ends-set g.model.now g.d g.v list items new is);
       whole = λ tour one feasible room. told-by (vehicle_at g.model.now g.v).schedule list _ c.requires.rule_is (record {
-        room = (let many = length-set items 0 new in let same = ap length c.write_between.ensures.ends in let some = some_from_test _ _ c.if-is_empty.false c.is_empty.ensures in omega (arith, many, same, some));
+        room = (let many = length-set items 0 new in
+            let same = ap length c.write_between.ensures.ends in
+            let some = some_from_test _ _ c.if-is_empty.false c.is_empty.ensures in
+            omega (arith, many, same, some));
         ways = λ other. subst (λ (l : List KeptTightWays). length (slice_index_or l 0 other).ways.items ≡ length list + 1) (sym c.write_between.ensures.ends)
-            (subst (λ (k : KeptTightWays). length k.ways.items ≡ length list + 1) (sym (get_or-set_same items 0 new other (let some = some_from_test _ _ c.if-is_empty.false c.is_empty.ensures in omega (arith, some))))
+            (subst (λ (k : KeptTightWays). length k.ways.items ≡ length list + 1)
+            (sym (get_or-set_same items 0 new other (let some = some_from_test _ _ c.if-is_empty.false c.is_empty.ensures in omega (arith, some))))
             (omega (arith, c.write_ways.ensures.ways.many)));
       });
     }

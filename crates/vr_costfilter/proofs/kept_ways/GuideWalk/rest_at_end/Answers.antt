@@ -15,4 +15,6 @@ pub returns-clause-range : goal.returns-clause-range
 returns-clause-range c n =
     let g = c.args.self.now in
     let h = c.args.self.now.sound in
-    tight-more 0 n (omega arith) (subst (IsTightRestOf g.model.now 0) (sym (returns-clause-value c)) (end-rest g.model.now h.well_formed g.d g.v h.dimension h.vehicle (runs_of g) h.finish))
+    tight-more 0 n (omega arith)
+    (subst (IsTightRestOf g.model.now 0) (sym (returns-clause-value c))
+    (end-rest g.model.now h.well_formed g.d g.v h.dimension h.vehicle (runs_of g) h.finish))

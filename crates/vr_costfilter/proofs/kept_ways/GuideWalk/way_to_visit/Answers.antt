@@ -11,4 +11,5 @@ returns-clause-range c n m less is =
     let h = g.sound in
     tight-more (n + 1) m (omega (arith, less))
     (subst (IsTightWayOf g.model.now (n + 1)) (sym c.way_on.ensures)
-    (on-way g.model.now h.well_formed g.d g.v h.dimension h.vehicle n c.args.way c.args.node _ is (visit_below g.model.now c.args.node c.requires.node) (visit-ends g.model.now h.well_formed g.d g.v h.dimension h.vehicle (runs_of g) h.visits c.args.node _ c.requires.node)))
+    (on-way g.model.now h.well_formed g.d g.v h.dimension h.vehicle n c.args.way c.args.node _ is (visit_below g.model.now c.args.node c.requires.node)
+    (visit-ends g.model.now h.well_formed g.d g.v h.dimension h.vehicle (runs_of g) h.visits c.args.node _ c.requires.node)))

@@ -17,4 +17,5 @@ pub returns-clause-known : goal.returns-clause-known
 returns-clause-known c =
     let part = c.args.self.now in
     let is = part.sound in
-    subst (λ v. v < length part.model.now.vehicles) (sym c.splice.ensures.vehicle) (known-vehicle part.model.now is.well_formed part.routes.now.lists part.change.now is.parts_are is.valid part.k is.part)
+    subst (λ v. v < length part.model.now.vehicles) (sym c.splice.ensures.vehicle)
+    (known-vehicle part.model.now is.well_formed part.routes.now.lists part.change.now is.parts_are is.valid part.k is.part)

@@ -18,27 +18,32 @@ use Rattle.vr_costfilter.proofs.LeastSpanLemmas.{change-idle, change-least, leas
 use Rattle.vr_costfilter.proofs.plan_cost.PlanCost.least.Goals as goal
 
 -- what is told of the lists after the change
-told-of : (kept : KeptPlans) (rows : List (List Early)) (parts : List ListAfter) (tours : Tours) → ArePlansKnown kept rows parts tours → AreEarlyParts kept.model tours.lists parts rows
-told-of kept rows parts tours h = record { well_formed = h.stands.well_formed; as_many = h.stands.as_many; parts_are = h.made.makes.parts_are; earlies = h.earlies }
+told-of : (kept : KeptPlans) (rows : List (List Early)) (parts : List ListAfter) (tours : Tours)
+    → ArePlansKnown kept rows parts tours → AreEarlyParts kept.model tours.lists parts rows
+told-of kept rows parts tours h =
+    record { well_formed = h.stands.well_formed; as_many = h.stands.as_many; parts_are = h.made.makes.parts_are; earlies = h.earlies }
 
 pub least-requires-clause-earlies : goal.least-requires-clause-earlies
 least-requires-clause-earlies c =
     let s = c.args.self.now in
     let tours : Tours = c.requires.0 in
     let told = told-of s c.args.earlies.now c.args.change.now tours c.requires.1 in
-    subst (λ (m : Model). AreEarlyInRange m c.args.change.now c.args.earlies.now) (sym (ap (λ s. s.model) c.self.view_is)) (early-range s.model tours.lists c.args.change.now c.args.earlies.now told)
+    subst (λ (m : Model). AreEarlyInRange m c.args.change.now c.args.earlies.now)
+    (sym (ap (λ s. s.model) c.self.view_is)) (early-range s.model tours.lists c.args.change.now c.args.earlies.now told)
 
 pub overflow_sub-least : goal.overflow_sub-least
 overflow_sub-least c =
     let low = subst (λ n. c.loop-k.k < n) c.parts-k-end.ensures.value c.loop-k-test.true in
-    let b = (old-cost c.args.self.now c.requires.0 c.args.change.now c.requires.1.stands c.requires.1.made.makes.parts_are c.loop-k.k low c.self.inside.costs.items (ap (λ s. s.costs) c.self.view_is) c.vehicle-v.result c.vehicle-v.ensures c.index.result.now c.index.ensures).range in
+    let b = (old-cost c.args.self.now c.requires.0 c.args.change.now c.requires.1.stands c.requires.1.made.makes.parts_are c.loop-k.k low
+    c.self.inside.costs.items (ap (λ s. s.costs) c.self.view_is) c.vehicle-v.result c.vehicle-v.ensures c.index.result.now c.index.ensures).range in
     let r = c.least.ensures.range in
     omega (arith, ints, b.low, b.high, r.low, r.high)
 
 pub overflow_add-least : goal.overflow_add-least
 overflow_add-least c =
     let low = subst (λ n. c.loop-k.k < n) c.parts-k-end.ensures.value c.loop-k-test.true in
-    let b = (old-cost c.args.self.now c.requires.0 c.args.change.now c.requires.1.stands c.requires.1.made.makes.parts_are c.loop-k.k low c.self.inside.costs.items (ap (λ s. s.costs) c.self.view_is) c.vehicle-v.result c.vehicle-v.ensures c.index.result.now c.index.ensures).range in
+    let b = (old-cost c.args.self.now c.requires.0 c.args.change.now c.requires.1.stands c.requires.1.made.makes.parts_are c.loop-k.k low
+    c.self.inside.costs.items (ap (λ s. s.costs) c.self.view_is) c.vehicle-v.result c.vehicle-v.ensures c.index.result.now c.index.ensures).range in
     let r = c.least.ensures.range in
     let i = c.loop-k.invariant.range in
     omega (arith, ints, b.low, b.high, r.low, r.high, i.low, i.high, c.loop-k.least-is, c.parts-k-end.ensures.few, c.loop-k-test.true)
@@ -49,7 +54,8 @@ loop-k-preserved c =
     let k = c.loop-k.k in
     let low = subst (λ n. k < n) c.parts-k-end.ensures.value c.loop-k-test.true in
     let part = part_at c.args.change.now k in
-    let b = (old-cost c.args.self.now c.requires.0 c.args.change.now c.requires.1.stands c.requires.1.made.makes.parts_are k low c.self.inside.costs.items (ap (λ s. s.costs) c.self.view_is) c.vehicle-v.result c.vehicle-v.ensures c.index.result.now c.index.ensures).range in
+    let b = (old-cost c.args.self.now c.requires.0 c.args.change.now c.requires.1.stands c.requires.1.made.makes.parts_are k low
+    c.self.inside.costs.items (ap (λ s. s.costs) c.self.view_is) c.vehicle-v.result c.vehicle-v.ensures c.index.result.now c.index.ensures).range in
     let r = c.least.ensures.range in
     let i = c.loop-k.invariant in
     let same = c.loop-k.least-is in
@@ -59,14 +65,19 @@ loop-k-preserved c =
       sum = λ tours h.
           let lists : List (List ℕ) = tours.lists in
           let seen = ap (λ (s : KeptPlans). s.model) c.self.view_is in
-          let now = old-cost c.args.self.now tours c.args.change.now h.stands h.made.makes.parts_are k low c.self.inside.costs.items (ap (λ s. s.costs) c.self.view_is) c.vehicle-v.result c.vehicle-v.ensures c.index.result.now c.index.ensures in
+          let now = old-cost c.args.self.now tours c.args.change.now h.stands h.made.makes.parts_are k low c.self.inside.costs.items
+          (ap (λ s. s.costs) c.self.view_is) c.vehicle-v.result c.vehicle-v.ensures c.index.result.now c.index.ensures in
           let old = now.value ∙ ap (λ w. plans_cost model w (route lists w)) c.vehicle-v.ensures in
-          let told = subst (λ (m : Model). AreEarlyParts m lists c.args.change.now c.args.earlies.now) (sym seen) (told-of c.args.self.now c.args.earlies.now c.args.change.now tours h) in
+          let told = subst (λ (m : Model). AreEarlyParts m lists c.args.change.now c.args.earlies.now)
+          (sym seen) (told-of c.args.self.now c.args.earlies.now c.args.change.now tours h) in
           let new = c.least.ensures.value lists told ∙ ap (λ m. spans_least m part.vehicle (joined lists part.pieces)) seen in
           let next = less-more (spans_least model) (plans_cost model) lists c.args.change.now k low in
           let before = i.sum tours h in
           omega (arith, ints, next, new, old, before, b.low, b.high, r.low, r.high, i.range.low, i.range.high, same, few, less);
-      range = record { low = omega (arith, ints, b.low, b.high, r.low, r.high, i.range.low, i.range.high, same, few, less); high = omega (arith, ints, b.low, b.high, r.low, r.high, i.range.low, i.range.high, same, few, less) };
+      range = record {
+        low = omega (arith, ints, b.low, b.high, r.low, r.high, i.range.low, i.range.high, same, few, less);
+        high = omega (arith, ints, b.low, b.high, r.low, r.high, i.range.low, i.range.high, same, few, less);
+      };
     }
 
 pub returns-clause-range : goal.returns-clause-range
@@ -81,7 +92,8 @@ returns-clause-value c tours h =
     let model = c.args.self.now.model in
     let many = c.parts-k-end.ensures.value in
     let end = c.loop-k-test.false in
-    c.loop-k.invariant.sum tours h ∙ ap (total_by (part_less (spans_least model) (plans_cost model) tours.lists)) (take_all c.loop-k.k c.args.change.now (omega (arith, many, end)))
+    c.loop-k.invariant.sum tours h
+    ∙ ap (total_by (part_less (spans_least model) (plans_cost model) tours.lists)) (take_all c.loop-k.k c.args.change.now (omega (arith, many, end)))
 
 pub returns-clause-least : goal.returns-clause-least
 returns-clause-least c tours h valid =
@@ -96,4 +108,5 @@ returns-then-is_idle-clause-value c tours h =
 
 pub returns-then-is_idle-clause-least : goal.returns-then-is_idle-clause-least
 returns-then-is_idle-clause-least c tours h valid =
-    change-idle c.args.self.now.model (idle-where c.args.self.now.model (sym c.is_idle.ensures.idle ∙ c.if-is_idle.true)) tours.lists (changed tours.lists c.args.change.now)
+    change-idle c.args.self.now.model (idle-where c.args.self.now.model (sym c.is_idle.ensures.idle ∙ c.if-is_idle.true))
+    tours.lists (changed tours.lists c.args.change.now)

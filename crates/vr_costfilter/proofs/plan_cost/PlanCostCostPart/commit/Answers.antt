@@ -34,17 +34,23 @@ loop-k-preserved c =
     let range = c.requires.ready.costed.range k low in
     let cost : ℤ = number_at c.args.self.now.next k in
     let stored : to_z w64 (of_z w64 (number_at c.deref.result.now k)) ≡ cost = ap (λ x. to_z w64 (of_z w64 x)) is ∙ read-cost cost range in
-    let value : cost ≡ plans_cost model v (joined lists part.pieces) = c.requires.ready.costed.next k low ∙ ap (λ w. plans_cost model w (joined lists part.pieces)) (sym vehicle) in
-    let set = rows-set (λ u l x. (x ≡ plans_cost model u l) × IsPlanCost x) (pos 0) base rows v (joined lists part.pieces) cost i.costs (omega (arith, vehicle, known, many, all_many, as_many)) (value, range) in
+    let value : cost ≡ plans_cost model v (joined lists part.pieces) = c.requires.ready.costed.next k low
+    ∙ ap (λ w. plans_cost model w (joined lists part.pieces)) (sym vehicle) in
+    let set = rows-set (λ u l x. (x ≡ plans_cost model u l) × IsPlanCost x) (pos 0) base rows v
+    (joined lists part.pieces) cost i.costs (omega (arith, vehicle, known, many, all_many, as_many)) (value, range) in
     let next = upto-put lists parts k low vehicle refl in
     record {
       model = i.model;
       cumuls = i.cumuls;
       next = i.next;
       many = length-set rows v _ ∙ many;
-      costs = subst (λ x. (u : ℕ) → u < length (upto lists parts (k + 1)) → (number_at (slice_set rows v x) u ≡ plans_cost model u (route (upto lists parts (k + 1)) u)) × IsPlanCost (number_at (slice_set rows v x) u)) (sym stored)
-          (subst (λ l. (u : ℕ) → u < length l → (number_at (slice_set rows v cost) u ≡ plans_cost model u (route l u)) × IsPlanCost (number_at (slice_set rows v cost) u)) next set);
+      costs = subst (λ x. (u : ℕ) → u < length (upto lists parts (k + 1))
+          → (number_at (slice_set rows v x) u ≡ plans_cost model u (route (upto lists parts (k + 1)) u)) × IsPlanCost (number_at (slice_set rows v x) u))
+          (sym stored)
+          (subst (λ l. (u : ℕ) → u < length l
+          → (number_at (slice_set rows v cost) u ≡ plans_cost model u (route l u)) × IsPlanCost (number_at (slice_set rows v cost) u)) next set);
     }
 
 pub commit-requires : goal.commit-requires
-commit-requires c = subst (λ (s : KeptPlans). IsValidChange (AreCumulsAt s.model s.cumuls) s.model c.args.routes.now c.args.change.now) (sym c.self.view_is) (plans-cumuls c.args.self.now c.args.routes.now c.args.change.now (record { stands = c.requires.stands; made = c.requires.made; valid = c.requires.valid }))
+commit-requires c = subst (λ (s : KeptPlans). IsValidChange (AreCumulsAt s.model s.cumuls) s.model c.args.routes.now c.args.change.now) (sym c.self.view_is)
+    (plans-cumuls c.args.self.now c.args.routes.now c.args.change.now (record { stands = c.requires.stands; made = c.requires.made; valid = c.requires.valid }))

@@ -13,5 +13,7 @@ invariant-loop-k l = record {
   cumuls : AreAllKept l.fn.self.model (changed l.routes.lists l.change) l.self-inside.cumuls;
   next : l.self-inside.next.items ≡ l.fn.self.next;
   many : length l.self-inside.costs.items ≡ length l.fn.self.costs;
-  costs : (u : ℕ) → u < length (upto l.routes.lists l.change l.k) → (number_at l.self-inside.costs.items u ≡ plans_cost l.fn.self.model u (route (upto l.routes.lists l.change l.k) u)) × IsPlanCost (number_at l.self-inside.costs.items u);
+  costs : (u : ℕ) → u < length (upto l.routes.lists l.change l.k)
+      → (number_at l.self-inside.costs.items u ≡ plans_cost l.fn.self.model u (route (upto l.routes.lists l.change l.k) u))
+      × IsPlanCost (number_at l.self-inside.costs.items u);
 }

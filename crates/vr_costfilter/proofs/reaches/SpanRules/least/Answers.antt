@@ -17,5 +17,6 @@ pub returns-clause-value : goal.returns-clause-value
 returns-clause-value c lists are orders =
     let told = subst (λ (m : Model). AreEarlyParts m lists c.args.change.now c.args.earlies.now) (sym c.self.view_is) are in
     let seen = subst (λ (m : Model). AreAllOrders m lists c.args.orders.now) (sym c.self.view_is) orders in
-    read-around c.least_of_global_spans.result (cumul_cost * 4) c.least_of_global_spans.ensures.range (omega arith) ∙ c.least_of_global_spans.ensures.value lists told seen
+    read-around c.least_of_global_spans.result (cumul_cost * 4) c.least_of_global_spans.ensures.range (omega arith)
+    ∙ c.least_of_global_spans.ensures.value lists told seen
     ∙ ap (λ (m : Model). global_least m lists c.args.change.now) c.self.view_is

@@ -8,7 +8,10 @@ use Rattle.vr_costfilter.proofs.KnownLemmas.{valid-part}
 use Rattle.vr_costfilter.proofs.schedule_costs.PlanRules.cost_after.Goals as goal
 
 pub invariant_of-part : goal.invariant_of-part
-invariant_of-part c = record { sound = valid-part c.self.inside.lookups.closed.model.now c.args.self.now c.self.view_is c.self.inside.lookups.closed.well_formed c.args.cumuls.now c.args.routes.now c.args.change.now c.requires.change c.args.k c.requires.part }
+invariant_of-part c = record {
+  sound = valid-part c.self.inside.lookups.closed.model.now c.args.self.now c.self.view_is c.self.inside.lookups.closed.well_formed
+      c.args.cumuls.now c.args.routes.now c.args.change.now c.requires.change c.args.k c.requires.part;
+}
 
 pub cost_of_part-requires-clause-used : goal.cost_of_part-requires-clause-used
 cost_of_part-requires-clause-used c =
@@ -18,4 +21,6 @@ cost_of_part-requires-clause-used c =
     }
 
 pub returns-clause-value : goal.returns-clause-value
-returns-clause-value c = subst (λ (m : Model). IfOk c.cost_of_part.result (λ cost. cost ≡ cost_after m c.args.routes.now.lists (part_at c.args.change.now c.args.k))) c.self.view_is c.cost_of_part.ensures.value
+returns-clause-value c =
+    subst (λ (m : Model). IfOk c.cost_of_part.result (λ cost. cost ≡ cost_after m c.args.routes.now.lists (part_at c.args.change.now c.args.k)))
+    c.self.view_is c.cost_of_part.ensures.value

@@ -20,7 +20,10 @@ invariant_of-tour c =
     let many = (small m well lists valid).many in
     let end = c.vehicles-v-end.ensures.value in
     let low = c.loop-v-test.true in
-    record { sound = tour-of m c.loop-v.v (route lists c.loop-v.v) (omega (arith, many, end, low)) (list-of m well lists valid c.loop-v.v) c.list.result.now c.list.ensures.value }
+    record {
+      sound = tour-of m c.loop-v.v (route lists c.loop-v.v) (omega (arith, many, end, low))
+          (list-of m well lists valid c.loop-v.v) c.list.result.now c.list.ensures.value;
+    }
 
 pub loop-v-preserved : goal.loop-v-preserved
 loop-v-preserved c =

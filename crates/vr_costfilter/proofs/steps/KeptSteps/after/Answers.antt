@@ -34,14 +34,18 @@ invariant_of-on c =
     let list : List ℕ = route lists asked.guide.now.v in
     let middle : List ℕ = joined lists ends.middle.now in
     let P : ℕ → Type 0 = λ node. IsTrue (is_visit asked.guide.now.model.now node) in
-    let all : All P (take ends.front list ++ (middle ++ drop ends.behind list)) = subst (All P) c.args.asked.now.sound.spliced.joins (all-visits asked.guide.now.model.now (joined lists asked.pieces.now) asked.sound.used.tour.visits) in
+    let all : All P (take ends.front list ++ (middle ++ drop ends.behind list)) = subst (All P) c.args.asked.now.sound.spliced.joins
+    (all-visits asked.guide.now.model.now (joined lists asked.pieces.now) asked.sound.used.tour.visits) in
     let long = ap length c.args.asked.now.sound.spliced.joins in
     let two = length-append (take ends.front list) (middle ++ drop ends.behind list) in
     let more = length-append middle (drop ends.behind list) in
     record {
       sound = record {
         within = c.args.asked.now.sound.spliced.within;
-        nodes = record { few = omega (arith, asked.sound.few, long, two, more); visits = all_left P middle (drop ends.behind list) (all_right P (take ends.front list) (middle ++ drop ends.behind list) all) };
+        nodes = record {
+          few = omega (arith, asked.sound.few, long, two, more);
+          visits = all_left P middle (drop ends.behind list) (all_right P (take ends.front list) (middle ++ drop ends.behind list) all);
+        };
       };
     }
 
@@ -58,7 +62,8 @@ back_along-requires c =
 abbrev Around : Asked → KeptSteps → Step → Type 0
 Around asked kept next =
     let g = asked.guide.now in
-    IsKeptAround g.model.now g.d g.v (runs_of g) (old_list asked) (steps_of kept) (new_list asked) asked.splice.front asked.splice.behind (joined asked.routes.now.lists asked.splice.middle.now) next
+    IsKeptAround g.model.now g.d g.v (runs_of g) (old_list asked) (steps_of kept) (new_list asked)
+    asked.splice.front asked.splice.behind (joined asked.routes.now.lists asked.splice.middle.now) next
 
 pub lead-requires-clause-room : goal.lead-requires-clause-room
 lead-requires-clause-room c =
@@ -81,60 +86,87 @@ set_out-requires-clause-lead c =
     let list = c.list-list.result.now in
     let same = ap length c.list-list.ensures.value in
     let led = c.in_ok-lead.ensures.led in
-    let long = length-take-le c.args.asked.now.splice.front list (omega (arith, c.args.asked.now.sound.spliced.order, c.args.asked.now.sound.spliced.high, same)) in
-    record { place = omega (arith, c.args.asked.now.sound.spliced.order, c.args.asked.now.sound.spliced.high, same, led.place, long); first = led.range; kept = led.kept_first }
+    let long = length-take-le c.args.asked.now.splice.front list
+    (omega (arith, c.args.asked.now.sound.spliced.order, c.args.asked.now.sound.spliced.high, same)) in
+    record {
+      place = omega (arith, c.args.asked.now.sound.spliced.order, c.args.asked.now.sound.spliced.high, same, led.place, long);
+      first = led.range;
+      kept = led.kept_first;
+    }
 
 pub along_trail-requires-clause-steps : goal.along_trail-requires-clause-steps
 along_trail-requires-clause-steps c = trail-known (back-anew c.clear.ensures c.in_ok-first.ensures.back) c.in_ok-lead.ensures.led
 
 pub overflow_add-result : goal.overflow_add-result
 overflow_add-result c =
-    let around : Around c.args.asked.now c.args.self.now c.step_behind-next.result = record { steps_are = c.requires.known.stages.steps_are; joins = c.args.asked.now.sound.spliced.joins; next_is = c.step_behind-next.ensures.value } in
+    let around : Around c.args.asked.now c.args.self.now c.step_behind-next.result =
+    record { steps_are = c.requires.known.stages.steps_are; joins = c.args.asked.now.sound.spliced.joins; next_is = c.step_behind-next.ensures.value } in
     let led = led-along c.args.asked.now.splice.front c.list-list.ensures.value c.in_ok-lead.ensures.led in
     let h = c.args.asked.now.guide.now.sound in
-    (comes-to around (start_run (runs_of c.args.asked.now.guide.now) c.args.start) (back-anew c.clear.ensures c.in_ok-first.ensures.back) led c.in_ok-met.ensures.met c.in_ok-gone.gone c.in_ok-end.end (sym c.in_ok-gone.ensures.value) (sym c.in_ok-end.ensures) chosen_is_least h.well_formed h.dimension c.requires.allows c.args.asked.now.sound.few).fits
+    (comes-to around (start_run (runs_of c.args.asked.now.guide.now) c.args.start) (back-anew c.clear.ensures c.in_ok-first.ensures.back)
+    led c.in_ok-met.ensures.met c.in_ok-gone.gone c.in_ok-end.end (sym c.in_ok-gone.ensures.value)
+    (sym c.in_ok-end.ensures) chosen_is_least h.well_formed h.dimension c.requires.allows c.args.asked.now.sound.few).fits
 
 pub returns : goal.returns
 returns c =
-    let around : Around c.args.asked.now c.args.self.now c.step_behind-next.result = record { steps_are = c.requires.known.stages.steps_are; joins = c.args.asked.now.sound.spliced.joins; next_is = c.step_behind-next.ensures.value } in
+    let around : Around c.args.asked.now c.args.self.now c.step_behind-next.result =
+    record { steps_are = c.requires.known.stages.steps_are; joins = c.args.asked.now.sound.spliced.joins; next_is = c.step_behind-next.ensures.value } in
     let led = led-along c.args.asked.now.splice.front c.list-list.ensures.value c.in_ok-lead.ensures.led in
     let h = c.args.asked.now.guide.now.sound in
-    let it = comes-to around (start_run (runs_of c.args.asked.now.guide.now) c.args.start) (back-anew c.clear.ensures c.in_ok-first.ensures.back) led c.in_ok-met.ensures.met c.in_ok-gone.gone c.in_ok-end.end (sym c.in_ok-gone.ensures.value) (sym c.in_ok-end.ensures) chosen_is_least h.well_formed h.dimension c.requires.allows c.args.asked.now.sound.few in
+    let it = comes-to around (start_run (runs_of c.args.asked.now.guide.now) c.args.start) (back-anew c.clear.ensures c.in_ok-first.ensures.back)
+    led c.in_ok-met.ensures.met c.in_ok-gone.gone c.in_ok-end.end (sym c.in_ok-gone.ensures.value)
+    (sym c.in_ok-end.ensures) chosen_is_least h.well_formed h.dimension c.requires.allows c.args.asked.now.sound.few in
     record { known = sym it.has.feasible; timing = it.has.timed.is_timing; range = it.has.timed.range }
 
 -- ---- where there is none
 
 pub returns-in_err-first : goal.returns-in_err-first
 returns-in_err-first c =
-    let around : Around c.args.asked.now c.args.self.now c.step_behind-next.result = record { steps_are = c.requires.known.stages.steps_are; joins = c.args.asked.now.sound.spliced.joins; next_is = c.step_behind-next.ensures.value } in
-    untold c.from_residual.ensures (middle-unmet around (start_run (runs_of c.args.asked.now.guide.now) c.args.start) c.requires.allows (sym c.in_err-first.ensures.value))
+    let around : Around c.args.asked.now c.args.self.now c.step_behind-next.result =
+    record { steps_are = c.requires.known.stages.steps_are; joins = c.args.asked.now.sound.spliced.joins; next_is = c.step_behind-next.ensures.value } in
+    untold c.from_residual.ensures
+    (middle-unmet around (start_run (runs_of c.args.asked.now.guide.now) c.args.start) c.requires.allows (sym c.in_err-first.ensures.value))
 
 pub returns-in_err-lead : goal.returns-in_err-lead
 returns-in_err-lead c =
     let g = c.args.asked.now.guide.now in
-    let around : Around c.args.asked.now c.args.self.now c.step_behind-next.result = record { steps_are = c.requires.known.stages.steps_are; joins = c.args.asked.now.sound.spliced.joins; next_is = c.step_behind-next.ensures.value } in
-    untold c.from_residual-in_err-lead.ensures (front-unmet around (start_run (runs_of c.args.asked.now.guide.now) c.args.start) c.requires.allows (back-anew c.clear.ensures c.in_ok-first.ensures.back)
-    (ap (λ l. first_step g.model.now g.d g.v (runs_of g) (take c.args.asked.now.splice.front l) c.in_ok-first.first) (sym c.list-list.ensures.value) ∙ sym c.in_err-lead.ensures.first))
+    let around : Around c.args.asked.now c.args.self.now c.step_behind-next.result =
+    record { steps_are = c.requires.known.stages.steps_are; joins = c.args.asked.now.sound.spliced.joins; next_is = c.step_behind-next.ensures.value } in
+    untold c.from_residual-in_err-lead.ensures
+    (front-unmet around (start_run (runs_of c.args.asked.now.guide.now) c.args.start)
+    c.requires.allows (back-anew c.clear.ensures c.in_ok-first.ensures.back)
+    (ap (λ l. first_step g.model.now g.d g.v (runs_of g) (take c.args.asked.now.splice.front l) c.in_ok-first.first) (sym c.list-list.ensures.value)
+    ∙ sym c.in_err-lead.ensures.first))
 
 pub returns-in_err-met : goal.returns-in_err-met
 returns-in_err-met c =
-    let around : Around c.args.asked.now c.args.self.now c.step_behind-next.result = record { steps_are = c.requires.known.stages.steps_are; joins = c.args.asked.now.sound.spliced.joins; next_is = c.step_behind-next.ensures.value } in
+    let around : Around c.args.asked.now c.args.self.now c.step_behind-next.result =
+    record { steps_are = c.requires.known.stages.steps_are; joins = c.args.asked.now.sound.spliced.joins; next_is = c.step_behind-next.ensures.value } in
     let led = led-along c.args.asked.now.splice.front c.list-list.ensures.value c.in_ok-lead.ensures.led in
-    untold c.from_residual-in_err-met.ensures (out-unmet around (start_run (runs_of c.args.asked.now.guide.now) c.args.start) (back-anew c.clear.ensures c.in_ok-first.ensures.back) led c.requires.allows (sym c.in_err-met.ensures.value))
+    untold c.from_residual-in_err-met.ensures
+    (out-unmet around (start_run (runs_of c.args.asked.now.guide.now) c.args.start)
+    (back-anew c.clear.ensures c.in_ok-first.ensures.back) led c.requires.allows (sym c.in_err-met.ensures.value))
 
 pub returns-in_err-gone : goal.returns-in_err-gone
 returns-in_err-gone c =
     let g = c.args.asked.now.guide.now in
     let left : List Step = drop c.args.asked.now.splice.behind (steps_of c.args.self.now) in
-    let around : Around c.args.asked.now c.args.self.now c.step_behind-next.result = record { steps_are = c.requires.known.stages.steps_are; joins = c.args.asked.now.sound.spliced.joins; next_is = c.step_behind-next.ensures.value } in
+    let around : Around c.args.asked.now c.args.self.now c.step_behind-next.result =
+    record { steps_are = c.requires.known.stages.steps_are; joins = c.args.asked.now.sound.spliced.joins; next_is = c.step_behind-next.ensures.value } in
     let led = led-along c.args.asked.now.splice.front c.list-list.ensures.value c.in_ok-lead.ensures.led in
-    untold c.from_residual-in_err-gone.ensures (rest-unmet around (start_run (runs_of c.args.asked.now.guide.now) c.args.start) (back-anew c.clear.ensures c.in_ok-first.ensures.back) led c.in_ok-met.ensures.met c.requires.allows
+    untold c.from_residual-in_err-gone.ensures
+    (rest-unmet around (start_run (runs_of c.args.asked.now.guide.now) c.args.start)
+    (back-anew c.clear.ensures c.in_ok-first.ensures.back) led c.in_ok-met.ensures.met c.requires.allows
     (ap (λ o. along_to_end g.model.now g.d g.v (runs_of g) o left) (sym c.in_err-gone.ensures.value) ∙ whole-none g.model.now g.d g.v (runs_of g) left))
 
 pub returns-in_err-end : goal.returns-in_err-end
 returns-in_err-end c =
     let g = c.args.asked.now.guide.now in
-    let around : Around c.args.asked.now c.args.self.now c.step_behind-next.result = record { steps_are = c.requires.known.stages.steps_are; joins = c.args.asked.now.sound.spliced.joins; next_is = c.step_behind-next.ensures.value } in
+    let around : Around c.args.asked.now c.args.self.now c.step_behind-next.result =
+    record { steps_are = c.requires.known.stages.steps_are; joins = c.args.asked.now.sound.spliced.joins; next_is = c.step_behind-next.ensures.value } in
     let led = led-along c.args.asked.now.splice.front c.list-list.ensures.value c.in_ok-lead.ensures.led in
-    untold c.from_residual-in_err-end.ensures (rest-unmet around (start_run (runs_of c.args.asked.now.guide.now) c.args.start) (back-anew c.clear.ensures c.in_ok-first.ensures.back) led c.in_ok-met.ensures.met c.requires.allows
-    (ap (λ o. along_to_end g.model.now g.d g.v (runs_of g) o (drop c.args.asked.now.splice.behind (steps_of c.args.self.now))) (sym c.in_ok-gone.ensures.value) ∙ sym c.in_err-end.ensures))
+    untold c.from_residual-in_err-end.ensures
+    (rest-unmet around (start_run (runs_of c.args.asked.now.guide.now) c.args.start)
+    (back-anew c.clear.ensures c.in_ok-first.ensures.back) led c.in_ok-met.ensures.met c.requires.allows
+    (ap (λ o. along_to_end g.model.now g.d g.v (runs_of g) o (drop c.args.asked.now.splice.behind (steps_of c.args.self.now)))
+    (sym c.in_ok-gone.ensures.value) ∙ sym c.in_err-end.ensures))

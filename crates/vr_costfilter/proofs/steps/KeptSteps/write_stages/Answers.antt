@@ -21,7 +21,8 @@ abbrev no_step : Step
 no_step = record { node = 0; floor = pos 0 }
 
 -- a step that is read is one of the list's
-read-is : (trail old : Trail) (read : List Step) (n k : ℕ) (other : Step) → trail ≡ old → read ≡ trail.steps.items → length old.steps.items ≡ n → k < n → slice_index_or read (n - 1 - k) no_step ≡ slice_index_or (reverse old.steps.items) k other
+read-is : (trail old : Trail) (read : List Step) (n k : ℕ) (other : Step) → trail ≡ old → read ≡ trail.steps.items
+    → length old.steps.items ≡ n → k < n → slice_index_or read (n - 1 - k) no_step ≡ slice_index_or (reverse old.steps.items) k other
 read-is trail old read n k other same is many low = step-read old.steps.items read n k no_step other (is ∙ ap (λ (t : Trail). t.steps.items) same) many low
 
 pub to_visit-requires-clause-step : goal.to_visit-requires-clause-step
@@ -32,16 +33,21 @@ to_visit-requires-clause-step c =
     let items : List Step = c.args.self.now.trail.steps.items in
     let many = items-many g.model.now g.d g.v (runs_of g) list items c.requires.steps.steps_are in
     let long = length-reverse items in
-    subst (IsVisitStep g.model.now) (sym (read-is c.loop-k.self.trail c.args.self.now.trail c.deref.result.now (length list) c.loop-k.k no_step c.loop-k.invariant.trail c.deref.ensures.0 many low))
+    subst (IsVisitStep g.model.now) (sym (read-is c.loop-k.self.trail c.args.self.now.trail
+    c.deref.result.now (length list) c.loop-k.k no_step c.loop-k.invariant.trail c.deref.ensures.0 many low))
     (c.requires.steps.known c.loop-k.k no_step (omega (arith, low, many, long)))
 
 pub to_visit-requires-clause-stage : goal.to_visit-requires-clause-stage
 to_visit-requires-clause-stage c =
-    stage-more c.args.on.now.guide.now.model.now (suc c.loop-k.k) 4000 c.loop-k.stage (omega (arith, c.args.on.now.sound.few, c.loop-k-test.true)) c.loop-k.invariant.range
+    stage-more c.args.on.now.guide.now.model.now (suc c.loop-k.k) 4000 c.loop-k.stage
+    (omega (arith, c.args.on.now.sound.few, c.loop-k-test.true)) c.loop-k.invariant.range
 
 pub to_end-requires : goal.to_end-requires
 to_end-requires c =
-    record { stage = stage-more c.args.on.now.guide.now.model.now (suc c.loop-k.k) 4000 c.loop-k.stage (omega (arith, c.args.on.now.sound.few, c.loop-k.auto.k-end)) c.loop-k.invariant.range }
+    record {
+      stage = stage-more c.args.on.now.guide.now.model.now (suc c.loop-k.k) 4000 c.loop-k.stage
+          (omega (arith, c.args.on.now.sound.few, c.loop-k.auto.k-end)) c.loop-k.invariant.range;
+    }
 
 pub loop-k-init : goal.loop-k-init
 loop-k-init c =
@@ -51,10 +57,13 @@ loop-k-init c =
     let items : c.push.new.self.items ≡ stage ∷ [] = c.push.ensures.items ∙ ap (λ l. l ++ stage ∷ []) (nothing old c.requires.none) in
     let first : Step = first_step_or (steps_of c.args.self.now) (end_step g.model.now g.v (runs_of g)) in
     let out : setting_out g.model.now g.d g.v (runs_of g) first ≡ Some stage =
-    ap (λ s. setting_out g.model.now g.d g.v (runs_of g) s) (sym c.requires.steps.first_is) ∙ ap (option_map (stage_at_start g.model.now g.d g.v)) (sym c.in-Some.ensures.value) ∙ ap (λ (s : Stage). Some s) (sym (c.standing-stage.ensures.value ∙ ap (stage_at_start g.model.now g.d g.v) (read-cumul c.in-Some.floor c.in-Some.ensures.range))) in
+    ap (λ s. setting_out g.model.now g.d g.v (runs_of g) s) (sym c.requires.steps.first_is)
+    ∙ ap (option_map (stage_at_start g.model.now g.d g.v)) (sym c.in-Some.ensures.value) ∙ ap (λ (s : Stage). Some s)
+    (sym (c.standing-stage.ensures.value ∙ ap (stage_at_start g.model.now g.d g.v) (read-cumul c.in-Some.floor c.in-Some.ensures.range))) in
     record {
       many = ap length items;
-      stages = first-stage g.model.now g.d g.v (runs_of g) c.args.on.now.list.now (steps_of c.args.self.now) c.push.new.self.items stage items out c.standing-stage.ensures.range;
+      stages = first-stage g.model.now g.d g.v (runs_of g) c.args.on.now.list.now
+          (steps_of c.args.self.now) c.push.new.self.items stage items out c.standing-stage.ensures.range;
       last = λ other. ap (λ (l : List Stage). slice_index_or l 0 other) items;
       range = c.standing-stage.ensures.range;
       trail = refl;
@@ -85,7 +94,8 @@ loop-k-preserved c =
     record {
       many = ap length items ∙ length-append old _ ∙ ap (λ n. n + 1) many ∙ (let e : suc k + 1 ≡ suc (k + 1) = omega arith in e);
       stages = stages-more g.model.now g.d g.v (runs_of g) list steps k old c.push-in-loop-k.new.self.items next (omega (arith, low, long)) many i.stages items
-          (λ other. ap (to_visit g.model.now g.d g.v (runs_of g) (slice_index_or steps k end)) (i.last other) ∙ ap (λ s. to_visit g.model.now g.d g.v (runs_of g) s c.loop-k.stage) (sym read) ∙ sym e.value)
+          (λ other. ap (to_visit g.model.now g.d g.v (runs_of g) (slice_index_or steps k end)) (i.last other)
+          ∙ ap (λ s. to_visit g.model.now g.d g.v (runs_of g) s c.loop-k.stage) (sym read) ∙ sym e.value)
           (e.at ∙ ap (λ (s : Step). s.node) read) range;
       last = λ other. ap (λ (l : List Stage). slice_index_or l (k + 1) other) items ∙ get_or_push old next other (k + 1) (omega (arith, many));
       range = range;
@@ -112,15 +122,18 @@ returns-in-None-clause-all c L by feasible =
     let read = read-is c.loop-k.self.trail c.args.self.now.trail c.deref.result.now (length list) k end i.trail c.deref.ensures.0 known low in
     let there = i.stages.each k c.loop-k.stage (omega arith) ∙ ap (λ (s : Stage). Some s) (i.last c.loop-k.stage) in
     let none = ap (λ (s : Step). to_visit g.model.now g.d g.v (runs_of g) s c.loop-k.stage) (sym read) ∙ sym c.in-None.ensures.value in
-    let stuck = along-stuck g.model.now g.d g.v (runs_of g) out steps k (length steps) end c.loop-k.stage (omega (arith, low, long)) (omega (arith, low, long)) there none in
+    let stuck = along-stuck g.model.now g.d g.v (runs_of g) out steps k (length steps) end
+    c.loop-k.stage (omega (arith, low, long)) (omega (arith, low, long)) there none in
     absurd (whole-had g.model.now g.d g.v (runs_of g) list L by feasible.0 feasible.1 steps c.requires.steps.steps_are
-    (ap (option_and_then (to_end g.model.now g.d g.v (runs_of g))) (ap (along g.model.now g.d g.v (runs_of g) out) (sym (take_all (length steps) steps (omega arith))) ∙ stuck)))
+    (ap (option_and_then (to_end g.model.now g.d g.v (runs_of g)))
+    (ap (along g.model.now g.d g.v (runs_of g) out) (sym (take_all (length steps) steps (omega arith))) ∙ stuck)))
 
 pub returns-in_default-clause-all : goal.returns-in_default-clause-all
 returns-in_default-clause-all c L by feasible =
     let g = c.args.on.now.guide.now in
     let steps : List Step = steps_of c.args.self.now in
-    let none = ap (λ s. setting_out g.model.now g.d g.v (runs_of g) s) (sym c.requires.steps.first_is) ∙ ap (option_map (stage_at_start g.model.now g.d g.v)) (sym c.in_default.ensures.value) in
+    let none = ap (λ s. setting_out g.model.now g.d g.v (runs_of g) s) (sym c.requires.steps.first_is)
+    ∙ ap (option_map (stage_at_start g.model.now g.d g.v)) (sym c.in_default.ensures.value) in
     absurd (whole-had g.model.now g.d g.v (runs_of g) c.args.on.now.list.now L by feasible.0 feasible.1 steps c.requires.steps.steps_are
     (ap (λ o. along_to_end g.model.now g.d g.v (runs_of g) o steps) none ∙ whole-none g.model.now g.d g.v (runs_of g) steps))
 
@@ -135,7 +148,9 @@ returns-in_default-to_end-clause-all c L by feasible =
     let out : Option Stage = setting_out g.model.now g.d g.v (runs_of g) (first_step_or steps (end_step g.model.now g.v (runs_of g))) in
     let there = i.stages.each c.loop-k.k c.loop-k.stage (omega arith) ∙ ap (λ (s : Stage). Some s) (i.last c.loop-k.stage) in
     absurd (whole-had g.model.now g.d g.v (runs_of g) list L by feasible.0 feasible.1 steps c.requires.steps.steps_are
-    (ap (option_and_then (to_end g.model.now g.d g.v (runs_of g))) (ap (along g.model.now g.d g.v (runs_of g) out) (sym (take_all c.loop-k.k steps (omega (arith, all, long)))) ∙ there) ∙ sym c.in_default-to_end.ensures.value))
+    (ap (option_and_then (to_end g.model.now g.d g.v (runs_of g)))
+    (ap (along g.model.now g.d g.v (runs_of g) out) (sym (take_all c.loop-k.k steps (omega (arith, all, long)))) ∙ there)
+    ∙ sym c.in_default-to_end.ensures.value))
 
 pub returns-in-Some-to_end-clause-stages : goal.returns-in-Some-to_end-clause-stages
 returns-in-Some-to_end-clause-stages c =
@@ -149,7 +164,8 @@ returns-in-Some-to_end-clause-stages c =
     let e = c.in-Some-to_end.ensures in
     let all : c.loop-k.k ≡ length list = omega (arith, c.loop-k.auto.k-end, c.loop-k-test.false) in
     let many : length old ≡ suc (length list) = i.many ∙ ap suc all in
-    let whole = stages-whole g.model.now g.d g.v (runs_of g) list steps c.requires.steps.steps_are c.requires.steps.known old new c.in-Some-to_end.end long many (subst (λ k. AreStages g.model.now g.d g.v (runs_of g) steps k old) all i.stages) c.push-in-Some-to_end.ensures.items
+    let whole = stages-whole g.model.now g.d g.v (runs_of g) list steps c.requires.steps.steps_are c.requires.steps.known old new c.in-Some-to_end.end
+    long many (subst (λ k. AreStages g.model.now g.d g.v (runs_of g) steps k old) all i.stages) c.push-in-Some-to_end.ensures.items
     (λ other. ap (to_end g.model.now g.d g.v (runs_of g)) (ap (λ k. slice_index_or old k other) (sym all) ∙ i.last other) ∙ sym e.value)
     (stage-more g.model.now (suc c.loop-k.k + 1) (suc (suc (length list))) c.in-Some-to_end.end (omega (arith, all)) (e.range (suc c.loop-k.k) i.range)) in
     record { told = λ _. subst (λ (t : Trail). AreAllStages g.model.now g.d g.v (runs_of g) list (reverse t.steps.items) new) (sym i.trail) whole }

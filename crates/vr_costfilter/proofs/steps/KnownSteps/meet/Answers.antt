@@ -19,12 +19,14 @@ returns-then-lead-eq0-clause-met c =
     let g = c.args.self.now.guide.now in
     let lead = c.args.lead in
     let none : lead.place ≡ 0 = omega (arith, c.if-lead-eq0.true) in
-    out-met c.at_floor.result (λ met. setting_out g.model.now g.d g.v (runs_of g) lead.first ≡ Some met.stage) (λ met. met.start ≡ met.stage.cumul) (λ met. met.more ≡ pos 0) (λ met. IsStageOf g.model.now 1002 met.stage)
+    out-met c.at_floor.result (λ met. setting_out g.model.now g.d g.v (runs_of g) lead.first ≡ Some met.stage)
+    (λ met. met.start ≡ met.stage.cumul) (λ met. met.more ≡ pos 0) (λ met. IsStageOf g.model.now 1002 met.stage)
     (IsOutsetOf g.model.now g.d g.v (runs_of g) g.start (steps_of c.args.self.now.kept.now) lead)
     (λ met out start more range. met-start g.model.now g.d g.v (runs_of g) (steps_of c.args.self.now.kept.now) lead met none out start more range)
     c.at_floor.ensures.out c.at_floor.ensures.start c.at_floor.ensures.more c.at_floor.ensures.range
   where
-    out-met : (o : Option Outset) (A B C D P : Outset → Type 0) → ((m : Outset) → A m → B m → C m → D m → P m) → IfSome o A → IfSome o B → IfSome o C → IfSome o D → IfSome o P
+    out-met : (o : Option Outset) (A B C D P : Outset → Type 0) → ((m : Outset) → A m → B m → C m → D m → P m)
+        → IfSome o A → IfSome o B → IfSome o C → IfSome o D → IfSome o P
     out-met None A B C D P f a b c d = a
     out-met (Some m) A B C D P f a b c d = f m a b c d
 
@@ -33,7 +35,9 @@ returns-then-lead-eq0-clause-value c =
     let g = c.args.self.now.guide.now in
     let lead = c.args.lead in
     let none : lead.place ≡ 0 = omega (arith, c.if-lead-eq0.true) in
-    c.at_floor.ensures.value ∙ ap (λ n. along g.model.now g.d g.v (runs_of g) (setting_out g.model.now g.d g.v (runs_of g) lead.first) (take n (steps_of c.args.self.now.kept.now))) (sym none)
+    c.at_floor.ensures.value
+    ∙ ap (λ n. along g.model.now g.d g.v (runs_of g) (setting_out g.model.now g.d g.v (runs_of g) lead.first) (take n (steps_of c.args.self.now.kept.now)))
+    (sym none)
 
 pub returns-clause-met : goal.returns-clause-met
 returns-clause-met c =

@@ -18,25 +18,36 @@ use Rattle.vr_costfilter.proofs.steps.KnownSteps.meet_from.Goals as goal
 pub pace-requires-clause-out : goal.pace-requires-clause-out
 pace-requires-clause-out c =
     let g = c.args.self.now.guide.now in
-    record { stands = subst (λ (s : Stage). s ≡ stage_at_start g.model.now g.d g.v s.cumul) (sym c.standing-out.ensures.value) refl; range = c.standing-out.ensures.range }
+    record {
+      stands = subst (λ (s : Stage). s ≡ stage_at_start g.model.now g.d g.v s.cumul) (sym c.standing-out.ensures.value) refl;
+      range = c.standing-out.ensures.range;
+    }
 
 -- the stage from which it goes on
-set-out : (g : Guide) (next : Step) (start : ℤ) {floor : ℤ} {allowed : Run} {stage : Stage} → allowed ≡ only start → stop_floor g.model.now g.d g.v (vehicle_at g.model.now g.v).start allowed next ≡ Some floor → stage ≡ stage_at_start g.model.now g.d g.v floor
+set-out : (g : Guide) (next : Step) (start : ℤ) {floor : ℤ} {allowed : Run} {stage : Stage} → allowed ≡ only start
+    → stop_floor g.model.now g.d g.v (vehicle_at g.model.now g.v).start allowed next ≡ Some floor → stage ≡ stage_at_start g.model.now g.d g.v floor
     → setting_out g.model.now g.d g.v (starting (runs_of g) (only start)) next ≡ Some stage
 set-out g next start {floor} {allowed} {stage} allowed_is floor_is stage_is =
-    ap (option_map (stage_at_start g.model.now g.d g.v)) (ap (λ (r : Run). stop_floor g.model.now g.d g.v (vehicle_at g.model.now g.v).start r next) (sym allowed_is) ∙ floor_is) ∙ ap (λ (s : Stage). Some s) (sym stage_is)
+    ap (option_map (stage_at_start g.model.now g.d g.v))
+    (ap (λ (r : Run). stop_floor g.model.now g.d g.v (vehicle_at g.model.now g.v).start r next) (sym allowed_is) ∙ floor_is)
+    ∙ ap (λ (s : Stage). Some s) (sym stage_is)
 
 pub returns-clause-met : goal.returns-clause-met
 returns-clause-met c =
     let g = c.args.self.now.guide.now in
-    let out = set-out g c.args.lead.first c.args.start (c.only.ensures.value ∙ ap only (read-cumul c.args.start c.requires.start)) (sym c.in_ok-floor.ensures.value) (c.standing-out.ensures.value ∙ ap (stage_at_start g.model.now g.d g.v) (read-cumul c.in_ok-floor.floor c.in_ok-floor.ensures.range)) in
-    some-map (LeadsTo g.model.now g.d g.v (runs_of g) (take c.args.lead.place (steps_of c.args.self.now.kept.now)) c.standing-out.result) (IsOutsetOf g.model.now g.d g.v (runs_of g) (only c.args.start) (steps_of c.args.self.now.kept.now) c.args.lead)
+    let out = set-out g c.args.lead.first c.args.start
+    (c.only.ensures.value ∙ ap only (read-cumul c.args.start c.requires.start)) (sym c.in_ok-floor.ensures.value)
+    (c.standing-out.ensures.value ∙ ap (stage_at_start g.model.now g.d g.v) (read-cumul c.in_ok-floor.floor c.in_ok-floor.ensures.range)) in
+    some-map (LeadsTo g.model.now g.d g.v (runs_of g) (take c.args.lead.place (steps_of c.args.self.now.kept.now)) c.standing-out.result)
+    (IsOutsetOf g.model.now g.d g.v (runs_of g) (only c.args.start) (steps_of c.args.self.now.kept.now) c.args.lead)
     c.pace.result (λ met paced. record { first = c.standing-out.result; out = out; paced = paced }) c.pace.ensures.paced
 
 pub returns-clause-value : goal.returns-clause-value
 returns-clause-value c =
     let g = c.args.self.now.guide.now in
-    let out = set-out g c.args.lead.first c.args.start (c.only.ensures.value ∙ ap only (read-cumul c.args.start c.requires.start)) (sym c.in_ok-floor.ensures.value) (c.standing-out.ensures.value ∙ ap (stage_at_start g.model.now g.d g.v) (read-cumul c.in_ok-floor.floor c.in_ok-floor.ensures.range)) in
+    let out = set-out g c.args.lead.first c.args.start
+    (c.only.ensures.value ∙ ap only (read-cumul c.args.start c.requires.start)) (sym c.in_ok-floor.ensures.value)
+    (c.standing-out.ensures.value ∙ ap (stage_at_start g.model.now g.d g.v) (read-cumul c.in_ok-floor.floor c.in_ok-floor.ensures.range)) in
     c.pace.ensures.value ∙ ap (λ o. along g.model.now g.d g.v (runs_of g) o (take c.args.lead.place (steps_of c.args.self.now.kept.now))) (sym out)
 
 pub returns-in_err-floor-clause-value : goal.returns-in_err-floor-clause-value
@@ -47,4 +58,6 @@ returns-in_err-floor-clause-value c =
     let allowed = c.only.ensures.value ∙ ap only (read-cumul c.args.start c.requires.start) in
     let none : stop_floor g.model.now g.d g.v start (only c.args.start) c.args.lead.first ≡ None =
     ap (λ (r : Run). stop_floor g.model.now g.d g.v start r c.args.lead.first) (sym allowed) ∙ sym c.in_err-floor.ensures.value in
-    ap (option_map reached) c.from_residual.ensures ∙ sym (ap (λ o. along g.model.now g.d g.v (runs_of g) (option_map (stage_at_start g.model.now g.d g.v) o) front) none ∙ along-none g.model.now g.d g.v (runs_of g) front)
+    ap (option_map reached) c.from_residual.ensures
+    ∙ sym (ap (λ o. along g.model.now g.d g.v (runs_of g) (option_map (stage_at_start g.model.now g.d g.v) o) front) none
+    ∙ along-none g.model.now g.d g.v (runs_of g) front)

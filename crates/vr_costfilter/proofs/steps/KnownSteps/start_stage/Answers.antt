@@ -26,7 +26,8 @@ returns-then-kept-cumul-clause-value c =
     let read = ap (λ (l : List Stage). slice_index_or l 0 no_stage) c.deref.ensures.0 in
     let old : Stage = slice_index_or c.deref.result.now 0 no_stage in
     let stands : old ≡ stage_at_start g.model.now g.d g.v old.cumul =
-    subst (λ (s : Stage). s ≡ stage_at_start g.model.now g.d g.v s.cumul) (sym read) (out-standing g.model.now g.d g.v (runs_of g) first (slice_index_or stages 0 no_stage) out) in
+    subst (λ (s : Stage). s ≡ stage_at_start g.model.now g.d g.v s.cumul) (sym read)
+    (out-standing g.model.now g.d g.v (runs_of g) first (slice_index_or stages 0 no_stage) out) in
     let range = (stage-known c.args.self.now.sound c.deref.ensures.0 0 no_stage (omega arith)).cumul in
     let x = c.requires.cumul in
     let same : old.cumul ≡ c.args.cumul = omega (arith, ints, c.if-kept-cumul.true, range.at_least, range.at_most, x.at_least, x.at_most) in

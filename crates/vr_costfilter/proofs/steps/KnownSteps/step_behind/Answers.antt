@@ -10,7 +10,8 @@ abbrev no_step : Step
 no_step = record { node = 0; floor = pos 0 }
 
 pub returns-then-k-n-clause-range : goal.returns-then-k-n-clause-range
-returns-then-k-n-clause-range c = visit-step c.args.self.now.guide.now.model.now _ (step-known c.args.self.now.sound c.deref.ensures.0 c.args.k c.if-k-n.true no_step)
+returns-then-k-n-clause-range c =
+    visit-step c.args.self.now.guide.now.model.now _ (step-known c.args.self.now.sound c.deref.ensures.0 c.args.k c.if-k-n.true no_step)
 
 pub returns-then-k-n-clause-value : goal.returns-then-k-n-clause-value
 returns-then-k-n-clause-value c =

@@ -17,13 +17,17 @@ use Rattle.vr_costfilter.proofs.WayLemmas.{end-read, start-small}
 use Rattle.vr_costfilter.proofs.with_guide.ListWithGuide.ends.Goals as goal
 
 -- the way of no visit and what is left from the start on, as they are read of what is kept
-module _ (g : Guide) (list : List ℕ) (few : length list ≤ 1000) (visits : All (λ node. IsTrue (is_visit g.model.now node)) list) (kept : KeptTightWays) (has : HasWaysBy g.model.now g.d g.v (runs_of g) list kept) (way : Way) (rest : Rest)
-    (way_is : (other : Way) → way ≡ slice_index_or kept.ways.items 0 other) (rest_is : (other : Rest) → rest ≡ slice_index_or kept.rests.items (length kept.rests.items - 1 - 0) other) where
+module _ (g : Guide) (list : List ℕ) (few : length list ≤ 1000) (visits : All (λ node. IsTrue (is_visit g.model.now node)) list)
+    (kept : KeptTightWays) (has : HasWaysBy g.model.now g.d g.v (runs_of g) list kept) (way : Way) (rest : Rest)
+    (way_is : (other : Way) → way ≡ slice_index_or kept.ways.items 0 other)
+    (rest_is : (other : Rest) → rest ≡ slice_index_or kept.rests.items (length kept.rests.items - 1 - 0) other) where
   first : rest ≡ slice_index_or kept.rests.items (length list) rest
-  first = rest_is rest ∙ ap (λ n. slice_index_or kept.rests.items n rest) (let e : length kept.rests.items - 1 - 0 ≡ length list = omega (arith, has.keeps.rests.many) in e)
+  first = rest_is rest
+      ∙ ap (λ n. slice_index_or kept.rests.items n rest) (let e : length kept.rests.items - 1 - 0 ≡ length list = omega (arith, has.keeps.rests.many) in e)
 
   way-small : IsTightWayOf g.model.now 9000 way
-  way-small = subst (IsTightWayOf g.model.now 9000) (sym (way_is way)) (tight-more 1000 9000 (omega arith) (kept-way g list few visits kept has 0 way (omega arith)))
+  way-small =
+      subst (IsTightWayOf g.model.now 9000) (sym (way_is way)) (tight-more 1000 9000 (omega arith) (kept-way g list few visits kept has 0 way (omega arith)))
 
   rest-small : IsTightRestOf g.model.now 1000 rest
   rest-small = subst (IsTightRestOf g.model.now 1000) (sym first) (kept-rest g list few visits kept has (length list) rest (omega arith))
@@ -38,8 +42,10 @@ module _ (g : Guide) (list : List ℕ) (few : length list ≤ 1000) (visits : Al
   whole-known =
       let m = g.model.now in
       let all : length list - length list ≡ 0 = omega arith in
-      let left : rest ≡ tight_rest_of m g.d g.v (runs_of g) list = first ∙ has.keeps.rests.each (length list) rest (omega arith) ∙ ap (λ n. tight_rest_of m g.d g.v (runs_of g) (drop n list)) all in
-      ap₂ (λ (w : Way) (r : Rest). way_through m g.d g.v w r) (way_is way ∙ has.keeps.ways.each 0 way (omega arith)) left ∙ through-rest m g.d g.v (runs_of g) list (way_out m g.v (runs_of g))
+      let left : rest ≡ tight_rest_of m g.d g.v (runs_of g) list = first ∙ has.keeps.rests.each (length list) rest (omega arith)
+      ∙ ap (λ n. tight_rest_of m g.d g.v (runs_of g) (drop n list)) all in
+      ap₂ (λ (w : Way) (r : Rest). way_through m g.d g.v w r) (way_is way ∙ has.keeps.ways.each 0 way (omega arith)) left
+      ∙ through-rest m g.d g.v (runs_of g) list (way_out m g.v (runs_of g))
 
 pub way-way-requires : goal.way-way-requires
 way-way-requires c = omega (arith, c.requires.keeps.ways.many)
@@ -48,21 +54,32 @@ pub rest-rest-requires : goal.rest-rest-requires
 rest-rest-requires c = omega (arith, c.requires.keeps.rests.many)
 
 pub way_through-whole-requires-clause-way : goal.way_through-whole-requires-clause-way
-way_through-whole-requires-clause-way c = let l = c.args.self.now in way-small l.guide.now l.list.now l.sound.few l.sound.visits c.args.kept.now c.requires c.way-way.result c.rest-rest.result c.way-way.ensures c.rest-rest.ensures
+way_through-whole-requires-clause-way c =
+    let l = c.args.self.now in
+    way-small l.guide.now l.list.now l.sound.few l.sound.visits c.args.kept.now
+    c.requires c.way-way.result c.rest-rest.result c.way-way.ensures c.rest-rest.ensures
 
 pub way_through-whole-requires-clause-rest : goal.way_through-whole-requires-clause-rest
-way_through-whole-requires-clause-rest c = let l = c.args.self.now in rest-small l.guide.now l.list.now l.sound.few l.sound.visits c.args.kept.now c.requires c.way-way.result c.rest-rest.result c.way-way.ensures c.rest-rest.ensures
+way_through-whole-requires-clause-rest c =
+    let l = c.args.self.now in
+    rest-small l.guide.now l.list.now l.sound.few l.sound.visits c.args.kept.now
+    c.requires c.way-way.result c.rest-rest.result c.way-way.ensures c.rest-rest.ensures
 
 pub ends_by-ends-requires : goal.ends_by-ends-requires
 ends_by-ends-requires c =
-    let l = c.args.self.now in
-    (l.guide.now.model.now, whole-small l.guide.now l.list.now l.sound.few l.sound.visits c.args.kept.now c.requires c.way-way.result c.rest-rest.result c.way-way.ensures c.rest-rest.ensures c.way_through-whole.result c.way_through-whole.ensures)
+    let l = c.args.self.now in (
+      l.guide.now.model.now,
+      whole-small l.guide.now l.list.now l.sound.few l.sound.visits c.args.kept.now c.requires c.way-way.result
+          c.rest-rest.result c.way-way.ensures c.rest-rest.ensures c.way_through-whole.result c.way_through-whole.ensures,
+    )
 
 pub returns : goal.returns
 returns c =
     let l = c.args.self.now in
-    let small = whole-small l.guide.now l.list.now l.sound.few l.sound.visits c.args.kept.now c.requires c.way-way.result c.rest-rest.result c.way-way.ensures c.rest-rest.ensures c.way_through-whole.result c.way_through-whole.ensures in
-    let is = c.way_through-whole.ensures ∙ whole-known l.guide.now l.list.now l.sound.few l.sound.visits c.args.kept.now c.requires c.way-way.result c.rest-rest.result c.way-way.ensures c.rest-rest.ensures in
+    let small = whole-small l.guide.now l.list.now l.sound.few l.sound.visits c.args.kept.now c.requires c.way-way.result
+    c.rest-rest.result c.way-way.ensures c.rest-rest.ensures c.way_through-whole.result c.way_through-whole.ensures in
+    let is = c.way_through-whole.ensures ∙ whole-known l.guide.now l.list.now l.sound.few l.sound.visits
+    c.args.kept.now c.requires c.way-way.result c.rest-rest.result c.way-way.ensures c.rest-rest.ensures in
     let start = c.ends_by-ends.ensures.start in
     let last = c.ends_by-ends.ensures.last in
     let start_read = start-small small c.ends_by-ends.result.start start ∙ start ∙ ap start_by is in

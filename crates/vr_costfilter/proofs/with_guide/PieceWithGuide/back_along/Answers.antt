@@ -28,8 +28,11 @@ returns-in-Node c =
     let e = c.step_back.ensures in
     record {
       value = e.value ∙ sym (ap (λ p. first_step g.model.now g.d g.v (runs_of g) (nodes_of lists p) c.args.next) c.in-Node.is);
-      back = some-map (λ (step : Step). (nodes : List ℕ) → nodes ≡ c.in-Node.node ∷ [] → WentBack g.model.now g.d g.v (runs_of g) nodes c.args.next c.args.trail.now.steps.items c.step_back.new.trail.steps.items step)
-          (WentBack g.model.now g.d g.v (runs_of g) (nodes_of lists c.args.self.now.piece) c.args.next c.args.trail.now.steps.items c.step_back.new.trail.steps.items) c.step_back.result (λ step f. f (nodes_of lists c.args.self.now.piece) (ap (nodes_of lists) c.in-Node.is)) e.back;
+      back = some-map (λ (step : Step). (nodes : List ℕ) → nodes ≡ c.in-Node.node ∷ []
+          → WentBack g.model.now g.d g.v (runs_of g) nodes c.args.next c.args.trail.now.steps.items c.step_back.new.trail.steps.items step)
+          (WentBack g.model.now g.d g.v (runs_of g) (nodes_of lists c.args.self.now.piece) c.args.next
+          c.args.trail.now.steps.items c.step_back.new.trail.steps.items) c.step_back.result
+          (λ step f. f (nodes_of lists c.args.self.now.piece) (ap (nodes_of lists) c.in-Node.is)) e.back;
       range = e.range;
     }
 
@@ -40,4 +43,5 @@ back_along-requires c =
 
 pub returns-in-Chain : goal.returns-in-Chain
 returns-in-Chain c =
-    subst (λ (l : List ℕ). HasWalkedBack c.args.self.now.guide.now l c.args.next c.args.trail.now.steps.items c.back_along.new.trail.steps.items c.back_along.result) (chain-is c.args.self.now.routes.now.lists c.in-Chain.is c.list-list.ensures.value) c.back_along.ensures
+    subst (λ (l : List ℕ). HasWalkedBack c.args.self.now.guide.now l c.args.next c.args.trail.now.steps.items c.back_along.new.trail.steps.items
+    c.back_along.result) (chain-is c.args.self.now.routes.now.lists c.in-Chain.is c.list-list.ensures.value) c.back_along.ensures

@@ -31,7 +31,8 @@ loop-k-init c =
     let g = c.args.self.now.guide.now in
     let lists : List (List ℕ) = c.args.self.now.routes.now.lists in
     record {
-      back = subst (λ l. WentBack g.model.now g.d g.v (runs_of g) (joined lists l) c.args.next c.args.trail.now.steps.items c.args.trail.now.steps.items c.args.next)
+      back = subst
+          (λ l. WentBack g.model.now g.d g.v (runs_of g) (joined lists l) c.args.next c.args.trail.now.steps.items c.args.trail.now.steps.items c.args.next)
           (sym (drop_all (length c.args.self.now.pieces.now - 0) c.args.self.now.pieces.now (omega arith)))
           (back-none g.model.now g.d g.v (runs_of g) c.args.next c.args.trail.now.steps.items);
       range = c.requires.step;
@@ -51,7 +52,8 @@ back_along-requires c =
     let on = c.args.self.now in
     let k = c.loop-k.k in
     let place = length on.pieces.now - (k + 1) in
-    let many = back-many g.model.now g.d g.v (runs_of g) (last-of on k) c.args.next c.loop-k.first c.args.trail.now.steps.items c.loop-k.trail.steps.items c.loop-k.invariant.back in
+    let many = back-many g.model.now g.d g.v (runs_of g) (last-of on k) c.args.next c.loop-k.first
+    c.args.trail.now.steps.items c.loop-k.trail.steps.items c.loop-k.invariant.back in
     let all = ap length (joined_rest on.routes.now.lists on.pieces.now place) in
     let two = length-append (joined on.routes.now.lists (take place on.pieces.now)) (last-of on (k + 1)) in
     let one = ap length (one-more on k c.loop-k-test.true) in
@@ -64,8 +66,10 @@ loop-k-preserved c =
     let k = c.loop-k.k in
     let e = c.in-Some.ensures in
     record {
-      back = back-more g.model.now g.d g.v (runs_of g) (one-of c.args.self.now k) (last-of c.args.self.now k) (last-of c.args.self.now (k + 1)) c.args.next c.loop-k.first c.in-Some.step
-          c.args.trail.now.steps.items c.loop-k.trail.steps.items c.back_along.new.trail.steps.items (one-more c.args.self.now k c.loop-k-test.true) c.loop-k.invariant.back e.back;
+      back = back-more g.model.now g.d g.v (runs_of g) (one-of c.args.self.now k) (last-of c.args.self.now k)
+          (last-of c.args.self.now (k + 1)) c.args.next c.loop-k.first c.in-Some.step
+          c.args.trail.now.steps.items c.loop-k.trail.steps.items c.back_along.new.trail.steps.items
+          (one-more c.args.self.now k c.loop-k-test.true) c.loop-k.invariant.back e.back;
       range = e.range;
     }
 
@@ -75,8 +79,14 @@ returns c =
     let lists : List (List ℕ) = c.args.self.now.routes.now.lists in
     let pieces : List Piece = c.args.self.now.pieces.now in
     let all : length pieces - c.loop-k.k ≡ 0 = omega (arith, c.loop-k-test.false) in
-    let back = subst (λ i. WentBack g.model.now g.d g.v (runs_of g) (joined lists (drop i pieces)) c.args.next c.args.trail.now.steps.items c.loop-k.trail.steps.items c.loop-k.first) all c.loop-k.invariant.back in
-    record { value = sym (went-begin g.model.now g.d g.v (runs_of g) (joined lists pieces) c.args.next c.loop-k.first c.args.trail.now.steps.items c.loop-k.trail.steps.items back); back = back; range = c.loop-k.invariant.range }
+    let back = subst (λ i. WentBack g.model.now g.d g.v (runs_of g) (joined lists (drop i pieces)) c.args.next
+    c.args.trail.now.steps.items c.loop-k.trail.steps.items c.loop-k.first) all c.loop-k.invariant.back in
+    record {
+      value = sym (went-begin g.model.now g.d g.v (runs_of g) (joined lists pieces) c.args.next
+          c.loop-k.first c.args.trail.now.steps.items c.loop-k.trail.steps.items back);
+      back = back;
+      range = c.loop-k.invariant.range;
+    }
 
 pub returns-in-None : goal.returns-in-None
 returns-in-None c =
@@ -85,7 +95,10 @@ returns-in-None c =
     let pieces : List Piece = c.args.self.now.pieces.now in
     let place = length pieces - (c.loop-k.k + 1) in
     let from_here : List ℕ = last-of c.args.self.now (c.loop-k.k + 1) in
-    let there = went-begin g.model.now g.d g.v (runs_of g) (last-of c.args.self.now c.loop-k.k) c.args.next c.loop-k.first c.args.trail.now.steps.items c.loop-k.trail.steps.items c.loop-k.invariant.back in
-    let none = sym (begin-none g.model.now g.d g.v (runs_of g) (joined lists pieces) (joined lists (take place pieces)) from_here c.args.next (joined_rest lists pieces place)
-    (begin-stuck g.model.now g.d g.v (runs_of g) from_here (one-of c.args.self.now c.loop-k.k) (last-of c.args.self.now c.loop-k.k) c.args.next c.loop-k.first (one-more c.args.self.now c.loop-k.k c.loop-k-test.true) there (sym c.in-None.ensures.value))) in
+    let there = went-begin g.model.now g.d g.v (runs_of g) (last-of c.args.self.now c.loop-k.k) c.args.next
+    c.loop-k.first c.args.trail.now.steps.items c.loop-k.trail.steps.items c.loop-k.invariant.back in
+    let none = sym (begin-none g.model.now g.d g.v (runs_of g) (joined lists pieces)
+    (joined lists (take place pieces)) from_here c.args.next (joined_rest lists pieces place)
+    (begin-stuck g.model.now g.d g.v (runs_of g) from_here (one-of c.args.self.now c.loop-k.k) (last-of c.args.self.now c.loop-k.k)
+    c.args.next c.loop-k.first (one-more c.args.self.now c.loop-k.k c.loop-k-test.true) there (sym c.in-None.ensures.value))) in
     record { value = none; back = tt; range = tt }

@@ -11,7 +11,8 @@ abbrev pub invariant-loop-mv : goal.invariant-loop-mv
 invariant-loop-mv g l = record {
   well_formed : IsWellFormed l.self-inside.model.now;
   of_model : l.self-inside.routes.now.visits ≡ visits l.self-inside.model.now;
-  passes : Passes (g.S.Sieve.covers l.sieve) (left_in l.initial.self-inside.current ++ moves_over l.initial.self-inside.model.now l.initial.self-inside.behind.now l.initial.self-inside.routes.now.lists) l.initial.passed
+  passes : Passes (g.S.Sieve.covers l.sieve) (left_in l.initial.self-inside.current
+      ++ moves_over l.initial.self-inside.model.now l.initial.self-inside.behind.now l.initial.self-inside.routes.now.lists) l.initial.passed
       (left_in l.self-inside.current ++ moves_over l.self-inside.model.now l.self-inside.behind.now l.self-inside.routes.now.lists) l.passed;
   looked : Looked (g.S.Sieve.can_ask l.sieve) g.S.Sieve.judged g.S.Sieve.looked (g.S.Sieve.tries l.sieve) l.initial.judge l.initial.passed l.judge l.passed;
 }

@@ -20,7 +20,8 @@ returns-in-Some-clause-looked g c =
 pub returns-clause-takes : goal.returns-clause-takes
 returns-clause-takes g c =
     let covers = g.S.Sieve.covers c.args.sieve.now in
-    let t = subst (λ l. Takes covers c.self.inside.behind c.args.passed.now c.step-found.result l c.step-found.new.passed) c.stretch-self-inside.ensures c.step-found.ensures.takes in
+    let t = subst (λ l. Takes covers c.self.inside.behind c.args.passed.now c.step-found.result l c.step-found.new.passed)
+    c.stretch-self-inside.ensures c.step-found.ensures.takes in
     record {
       behind = t.behind;
       passes = passes_from covers _ _ _ _ _

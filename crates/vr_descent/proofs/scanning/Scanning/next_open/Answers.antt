@@ -8,7 +8,8 @@ use Rattle.vr_descent.proofs.scanning.Scanning.next_open.Goals as goal
 pub returns-in-Some-clause-takes : goal.returns-in-Some-clause-takes
 returns-in-Some-clause-takes g c = record {
   behind = c.args.list.now;
-  passes = passes_none (IsPassed (g.A.Accept.model c.args.self.now.accept.now) (g.A.Accept.takes c.args.self.now.accept.now) c.args.self.now.routes.now.lists c.args.self.now.rest)
+  passes = passes_none (IsPassed (g.A.Accept.model c.args.self.now.accept.now)
+      (g.A.Accept.takes c.args.self.now.accept.now) c.args.self.now.routes.now.lists c.args.self.now.rest)
       c.args.list.now c.args.place.now (search rules);
   first = c.in-Some.ensures;
 }
@@ -20,5 +21,7 @@ returns-in-Some-clause-looked g c =
 
 pub returns-clause-takes : goal.returns-clause-takes
 returns-clause-takes g c =
-    subst (λ l. Takes (IsPassed (g.A.Accept.model c.args.self.now.accept.now) (g.A.Accept.takes c.args.self.now.accept.now) c.args.self.now.routes.now.lists c.args.self.now.rest)
+    subst (λ l.
+    Takes (IsPassed (g.A.Accept.model c.args.self.now.accept.now)
+    (g.A.Accept.takes c.args.self.now.accept.now) c.args.self.now.routes.now.lists c.args.self.now.rest)
     l c.args.place.now c.next_by_sieve.result c.next_by_sieve.new.list c.next_by_sieve.new.place) c.in_default.ensures c.next_by_sieve.ensures.takes

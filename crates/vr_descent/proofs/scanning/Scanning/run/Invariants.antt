@@ -16,7 +16,8 @@ invariant-loop-mv g l = record {
   asked : AsksFor g.J.Judge.asked g.J.Judge.looked l.initial.judge l.judge l.place;
   within : l.place ≤ l.self.rest;
   ends : scan_from l.place (is_acceptable l.closed.model.now (g.A.Accept.takes l.self.accept.now) l.self.routes.now.lists) l.self.rest l.list
-      ≡ scan (moves l.closed.model.now l.self.routes.now.lists) (is_acceptable l.closed.model.now (g.A.Accept.takes l.self.accept.now) l.self.routes.now.lists) l.self.rest;
+      ≡ scan (moves l.closed.model.now l.self.routes.now.lists)
+      (is_acceptable l.closed.model.now (g.A.Accept.takes l.self.accept.now) l.self.routes.now.lists) l.self.rest;
   moves : list_all (is_move l.closed.model.now l.self.routes.now.lists) l.list ≡ true;
 }
 

@@ -24,7 +24,8 @@ returns-in-Some-clause-passed g c =
     (λ k told. record {
       few = c.if-self-gt-FEW.false;
       refused = run_refused model takes lists mv c.in-Some.bound enough k
-          (subst (IsNoLess model lists (with_last mv k)) same (subst (λ (m : Model). IsNoLess m lists (with_last mv k) bound) c.requires.can_ask.judge_model told));
+          (subst (IsNoLess model lists (with_last mv k)) same
+          (subst (λ (m : Model). IsNoLess m lists (with_last mv k) bound) c.requires.can_ask.judge_model told));
     })
     c.args.from c.first_below.result c.first_below.ensures.no_less
 
@@ -39,4 +40,5 @@ first_below-requires-clause-well_formed g c = subst IsWellFormed (sym c.requires
 
 pub first_below-requires-clause-holds : goal.first_below-requires-clause-holds
 first_below-requires-clause-holds g c =
-    subst (λ (m : Model). HasCommitted m (g.J.Judge.committed c.args.judge.now) c.args.self.now.routes.now) (sym c.requires.can_ask.judge_model) c.requires.can_ask.holds
+    subst (λ (m : Model). HasCommitted m (g.J.Judge.committed c.args.judge.now) c.args.self.now.routes.now)
+    (sym c.requires.can_ask.judge_model) c.requires.can_ask.holds

@@ -32,7 +32,8 @@ write_list-requires-clause-nodes c =
     let well = subst IsWellFormed (ap (λ s. s.model) c.self.view_is) c.self.invariant.well_formed in
     let part = is-part c.args.self.now.model well lists c.args.change.now c.requires.made.makes.parts_are c.requires.valid c.loop-k.k low in
     let list = c.as_slice.ensures.value ∙ c.join_into.ensures ∙ ap (joined lists) c.pieces.ensures.value in
-    subst (λ m. All (λ node. node < m.nodes) c.as_slice.result.now) (sym c.loop-k.invariant.model) (subst (All (λ node. node < c.args.self.now.model.nodes)) (sym list) part.nodes)
+    subst (λ m. All (λ node. node < m.nodes) c.as_slice.result.now) (sym c.loop-k.invariant.model)
+    (subst (All (λ node. node < c.args.self.now.model.nodes)) (sym list) part.nodes)
 
 pub loop-k-preserved : goal.loop-k-preserved
 loop-k-preserved c =
@@ -45,11 +46,13 @@ loop-k-preserved c =
     let base : List (List ℕ) = upto lists parts k in
     let old : List (List KeptWays) = c.loop-k.self-inside.kept.items in
     let new : List (List KeptWays) = c.write_list.new.kept in
-    let set = c.write_list.ensures base (subst (HaveAllWays m base) (sym c.deref_mut.ensures.value) i.kept) (upto-within lists parts c.requires.made.makes.parts_are k low c.vehicle.ensures) in
+    let set = c.write_list.ensures base (subst (HaveAllWays m base) (sym c.deref_mut.ensures.value) i.kept)
+    (upto-within lists parts c.requires.made.makes.parts_are k low c.vehicle.ensures) in
     let next = upto-put lists parts k low c.vehicle.ensures (c.as_slice.ensures.value ∙ c.join_into.ensures ∙ ap (joined lists) c.pieces.ensures.value) in
     record {
       model = i.model;
       floors = i.floors;
-      kept = subst (HaveAllWays m (upto lists parts (k + 1))) (sym (written old new c.loop-k.self-inside.kept.len (set.many ∙ sym i.kept.many) (sym c.deref_mut.ensures.len ∙ ap length c.deref_mut.ensures.value)))
+      kept = subst (HaveAllWays m (upto lists parts (k + 1)))
+          (sym (written old new c.loop-k.self-inside.kept.len (set.many ∙ sym i.kept.many) (sym c.deref_mut.ensures.len ∙ ap length c.deref_mut.ensures.value)))
           (subst (λ l. HaveAllWays m l new) next set);
     }

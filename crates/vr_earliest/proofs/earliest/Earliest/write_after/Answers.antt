@@ -27,7 +27,8 @@ row_after-requires c =
     record {
       stands = c.requires.stands;
       dimension = omega (arith, low, c.requires.stands.ways.many);
-      of_all = ap (λ (l : List KeptWays). length l) (get_or_default c.args.self.now.kept d [] one low ∙ sym is) ∙ all-where-some model d lists one here (omega (arith, some, same));
+      of_all = ap (λ (l : List KeptWays). length l) (get_or_default c.args.self.now.kept d [] one low ∙ sym is)
+          ∙ all-where-some model d lists one here (omega (arith, some, same));
       parts_are = c.requires.parts;
       below = c.requires.nodes;
     }
@@ -47,18 +48,22 @@ loop-d-preserved c =
           let all = ap (λ (l : List (List KeptWays)). length l) kept in
           let set = w.set.ensures.row in
           subst (AreTold model lists parts (d + 1)) (sym (w.out-is ∙ set))
-          (told-more model lists parts d out c.loop-d.invariant row (omega (arith, few, c.requires.stands.ways.many, all, c.len-d-end.ensures, c.loop-d-test.true)) (ap (λ (l : List (List Early)). length l) (sym set) ∙ w.set.ensures.many) w.row_after.ensures))
+          (told-more model lists parts d out c.loop-d.invariant row
+          (omega (arith, few, c.requires.stands.ways.many, all, c.len-d-end.ensures, c.loop-d-test.true))
+          (ap (λ (l : List (List Early)). length l) (sym set) ∙ w.set.ensures.many) w.row_after.ensures))
       | else-not-is_empty w ↦ (
           let none = w.if-not-is_empty.false in
           let first = c.requires.parts.each_vehicle 0 no_part (omega (arith, c.parts-few.ensures.some, c.parts-few.ensures.value)) in
           let one : List KeptWays = c.index.result.now in
           let is : one ≡ slice_index_or c.args.self.now.kept d one = c.index.ensures ∙ ap (λ (l : List (List KeptWays)). slice_index_or l d one) kept in
           let all = ap (λ (l : List (List KeptWays)). length l) kept in
-          let here : HaveWays model d lists one = subst (HaveWays model d lists) (sym is) (c.requires.stands.ways.each d one (omega (arith, all, c.len-d-end.ensures, c.loop-d-test.true))) in
+          let here : HaveWays model d lists one = subst (HaveWays model d lists) (sym is)
+          (c.requires.stands.ways.each d one (omega (arith, all, c.len-d-end.ensures, c.loop-d-test.true))) in
           let empty = none_from_test _ _ none c.is_empty.ensures in
           let length_is = ap (λ (l : List KeptWays). length l) c.behind-self.view_is in
           subst (AreTold model lists parts (d + 1)) (sym w.out-is)
-          (told-unpaid model lists parts d out c.loop-d.invariant (unpaid-where-none model d lists one here (omega (arith, empty, length_is)) (omega (arith, first)))))
+          (told-unpaid model lists parts d out c.loop-d.invariant
+          (unpaid-where-none model d lists one here (omega (arith, empty, length_is)) (omega (arith, first)))))
     ]
 
 pub returns : goal.returns

@@ -29,7 +29,8 @@ loop-v-preserved c =
     let P = λ (v : ℕ) (kept : KeptWays). HasWays m c.args.d v (route lists v) kept in
     let new = c.write_ways.new.kept in
     let e = c.of-guide.ensures in
-    let is = subst (λ l. HasWays m c.args.d c.loop-v.v l new) c.list.ensures.value (by-guide c.of-guide.result e.model e.dimension e.vehicle (λ model d v. HasWays model d v c.list.result.now new) c.write_ways.ensures) in
+    let is = subst (λ l. HasWays m c.args.d c.loop-v.v l new) c.list.ensures.value
+    (by-guide c.of-guide.result e.model e.dimension e.vehicle (λ model d v. HasWays model d v c.list.result.now new) c.write_ways.ensures) in
     rw c.in_ok-push.ensures.items (record {
       many = length-append c.loop-v.lists.items _ ∙ ap (λ n. n + 1) i.many;
       each = λ v other low. each-push P c.loop-v.lists.items new i.each (subst (λ n. P n new) (sym i.many) is) v other low;

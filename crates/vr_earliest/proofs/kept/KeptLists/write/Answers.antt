@@ -8,7 +8,8 @@ use Rattle.vr_earliest.proofs.WayLemmas.{by-guide}
 use Rattle.vr_earliest.proofs.kept.KeptLists.write.Goals as goal
 
 pub write_ways-requires : goal.write_ways-requires
-write_ways-requires c = (omega arith, (c.requires.few, subst (λ (m : Model). All (λ node. node < m.nodes) c.args.list.now) (sym c.of-guide.ensures.model) c.requires.nodes))
+write_ways-requires c =
+    (omega arith, (c.requires.few, subst (λ (m : Model). All (λ node. node < m.nodes) c.args.list.now) (sym c.of-guide.ensures.model) c.requires.nodes))
 
 pub returns-then-v-len : goal.returns-then-v-len
 returns-then-v-len c lists h known =
@@ -23,4 +24,5 @@ returns-then-v-len c lists h known =
 pub returns-else-v-len : goal.returns-else-v-len
 returns-else-v-len c lists h known =
     subst (HaveWays c.args.closed.model.now c.args.d (with_route lists c.args.v c.args.list.now)) c.self.view_is
-    (kept-stays c.args.closed.model.now c.args.d lists c.self.inside.lists.items c.args.v c.args.list.now (subst (HaveWays c.args.closed.model.now c.args.d lists) (sym c.self.view_is) h) (omega (arith, c.len.ensures, c.if-v-len.false)))
+    (kept-stays c.args.closed.model.now c.args.d lists c.self.inside.lists.items c.args.v c.args.list.now
+    (subst (HaveWays c.args.closed.model.now c.args.d lists) (sym c.self.view_is) h) (omega (arith, c.len.ensures, c.if-v-len.false)))

@@ -11,7 +11,8 @@ returns-clause-range c n =
     let h = g.sound in
     let f = floor-at _ _ g.floors.now.ends.items h.floors_are.ends g.v h.vehicle c.index.result.now c.index.ensures in
     record {
-      at = subst (λ (w : Vehicle). w.end < g.model.now.nodes) (c.get.ensures.value no_vehicle) (h.well_formed.each_vehicle g.v no_vehicle h.vehicle).end_in_range;
+      at = subst (λ (w : Vehicle). w.end < g.model.now.nodes) (c.get.ensures.value no_vehicle)
+          (h.well_formed.each_vehicle g.v no_vehicle h.vehicle).end_in_range;
       low = omega (arith, ints);
       high = omega (arith, ints);
       early = omega (arith, ints, f.range.at_least, f.range.at_most);

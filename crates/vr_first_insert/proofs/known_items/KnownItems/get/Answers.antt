@@ -11,4 +11,6 @@ returns c =
     let changes = c.self.inside.changes in
     let found = c.self.inside.found in
     c.known_of.ensures ∙ (ap (known_after changes) (sym (c.get-found.ensures.value none))
-    ∙ (sym (read changes found c.args.i none (subst (λ n. c.args.i < n) (sym (ap length c.self.view_is) ∙ length-map found (known_after changes)) c.requires)) ∙ ap (λ row. slice_index_or row c.args.i Nothing) c.self.view_is))
+    ∙ (sym
+    (read changes found c.args.i none (subst (λ n. c.args.i < n) (sym (ap length c.self.view_is) ∙ length-map found (known_after changes)) c.requires))
+    ∙ ap (λ row. slice_index_or row c.args.i Nothing) c.self.view_is))

@@ -11,11 +11,15 @@ rewrite_rows-requires-clause-rows c =
     let model = c.args.new.now.lookups.now.closed.model.now in
     let many = c.requires.kept.many in
     let there = c.requires.there in
-    let old : c.as_slice-old.result.now ≡ route lists c.args.new.now.vehicle = list_at lists c.args.new.now.vehicle c.as_slice-old.result.now c.index-lists-v.result c.as_slice-old.ensures c.index-lists-v.is there in
-    subst (λ l. AreRowsIfUsed model c.args.d c.args.new.now.vehicle l c.index_mut.result.now) (sym old) (subst (AreRowsIfUsed model c.args.d c.args.new.now.vehicle (route lists c.args.new.now.vehicle)) (sym c.index_mut.ensures.value) (c.requires.kept.rows_of_each c.args.new.now.vehicle c.index_mut.result.now (omega (arith, there, many))))
+    let old : c.as_slice-old.result.now ≡ route lists c.args.new.now.vehicle = list_at lists c.args.new.now.vehicle
+    c.as_slice-old.result.now c.index-lists-v.result c.as_slice-old.ensures c.index-lists-v.is there in
+    subst (λ l. AreRowsIfUsed model c.args.d c.args.new.now.vehicle l c.index_mut.result.now) (sym old)
+    (subst (AreRowsIfUsed model c.args.d c.args.new.now.vehicle (route lists c.args.new.now.vehicle)) (sym c.index_mut.ensures.value)
+    (c.requires.kept.rows_of_each c.args.new.now.vehicle c.index_mut.result.now (omega (arith, there, many))))
 
 pub returns : goal.returns
 returns c =
     let before = c.args.self.now in
     let rows = c.rewrite_rows.new.rows in
-    kept_again c.args.new.now.lookups.now.closed.model.now c.args.d c.args.lists.now c.args.new.now.vehicle c.args.new.now.nodes.now before (record { rows = with_item before.rows c.args.new.now.vehicle rows }) rows refl c.requires.there c.in_ok-rewrite_rows.ensures c.requires.kept
+    kept_again c.args.new.now.lookups.now.closed.model.now c.args.d c.args.lists.now c.args.new.now.vehicle c.args.new.now.nodes.now before
+    (record { rows = with_item before.rows c.args.new.now.vehicle rows }) rows refl c.requires.there c.in_ok-rewrite_rows.ensures c.requires.kept

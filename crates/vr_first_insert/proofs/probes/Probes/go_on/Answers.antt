@@ -15,6 +15,7 @@ loop-d-preserved c =
     let Left = λ (d : ℕ) (levels : List (List Run)). d < length model.dimensions → IsReachedAt model d c.args.v c.args.list.now c.args.k levels in
     record {
       long = length-set here c.loop-d.d new ∙ m.long;
-      done = λ d other low lt. moved_more P here c.loop-d.d new (omega (arith, m.long, c.requires.here.enough, c.loop-d-test.true)) m.done c.in_ok-go_on.ensures d other low lt;
+      done = λ d other low lt. moved_more P here c.loop-d.d new
+          (omega (arith, m.long, c.requires.here.enough, c.loop-d-test.true)) m.done c.in_ok-go_on.ensures d other low lt;
       left = λ d other low lt within. left_behind Left here c.loop-d.d new m.left d other low lt within;
     }

@@ -8,6 +8,8 @@ use Rattle.vr_first_insert.proofs.probes.Probes.go_on.Given as goal
 abbrev pub invariant-loop-d : goal.invariant-loop-d
 invariant-loop-d l = record {
   long : length l.self.here.items ≡ length l.initial.self.here.items;
-  done : (d : ℕ) (other : List (List Run)) → d < l.d → d < length l.self.here.items → IsReachedAt l.lookups.closed.model.now d l.v l.list (l.k + 1) (slice_index_or l.self.here.items d other);
-  left : (d : ℕ) (other : List (List Run)) → l.d ≤ d → d < length l.self.here.items → d < length l.lookups.closed.model.now.dimensions → IsReachedAt l.lookups.closed.model.now d l.v l.list l.k (slice_index_or l.self.here.items d other);
+  done : (d : ℕ) (other : List (List Run)) → d < l.d → d < length l.self.here.items
+      → IsReachedAt l.lookups.closed.model.now d l.v l.list (l.k + 1) (slice_index_or l.self.here.items d other);
+  left : (d : ℕ) (other : List (List Run)) → l.d ≤ d → d < length l.self.here.items → d < length l.lookups.closed.model.now.dimensions
+      → IsReachedAt l.lookups.closed.model.now d l.v l.list l.k (slice_index_or l.self.here.items d other);
 }

@@ -23,14 +23,18 @@ returns-then-is_stuck-clause-no_end c = λ t v list k low used within at.
 told : (c : After-is_stuck) (b : Bool) → c.is_stuck.result ≡ b → is_stuck (slice_index_or c.args.self.now.here.items c.loop-d.d []) ≡ b
 told c b e =
     let here : List (List (List Run)) = c.args.self.now.here.items in
-    ap is_stuck (sym (c.index.ensures ∙ get_or_default here c.loop-d.d c.index.result.now [] (omega (arith, c.loop-d-test.true, c.len-d-end.ensures, c.requires)))) ∙ sym c.is_stuck.ensures.exact ∙ e
+    ap is_stuck
+    (sym (c.index.ensures ∙ get_or_default here c.loop-d.d c.index.result.now [] (omega (arith, c.loop-d-test.true, c.len-d-end.ensures, c.requires))))
+    ∙ sym c.is_stuck.ensures.exact ∙ e
 
 pub returns-then-is_stuck-clause-exact : goal.returns-then-is_stuck-clause-exact
 returns-then-is_stuck-clause-exact c =
-    test_finds (λ d. is_stuck (slice_index_or c.args.self.now.here.items d [])) (length c.args.closed.model.now.dimensions) c.loop-d.d c.loop-d.invariant (omega (arith, c.loop-d-test.true, c.len-d-end.ensures))
+    test_finds (λ d. is_stuck (slice_index_or c.args.self.now.here.items d [])) (length c.args.closed.model.now.dimensions)
+    c.loop-d.d c.loop-d.invariant (omega (arith, c.loop-d-test.true, c.len-d-end.ensures))
     (told (goal.at.returns-then-is_stuck-clause-exact c).After-is_stuck true c.if-is_stuck.true)
 
 pub loop-d-preserved : goal.loop-d-preserved
 loop-d-preserved c =
-    test_goes_on (λ d. is_stuck (slice_index_or c.args.self.now.here.items d [])) (length c.args.closed.model.now.dimensions) c.loop-d.d c.loop-d.invariant (omega (arith, c.loop-d-test.true, c.len-d-end.ensures))
+    test_goes_on (λ d. is_stuck (slice_index_or c.args.self.now.here.items d [])) (length c.args.closed.model.now.dimensions)
+    c.loop-d.d c.loop-d.invariant (omega (arith, c.loop-d-test.true, c.len-d-end.ensures))
     (told (goal.at.loop-d-preserved c).After-is_stuck false c.if-is_stuck.false)

@@ -7,4 +7,5 @@ use Rattle.vr_first_insert.specs.Probes.{is_stuck_in_some}
 use Rattle.vr_first_insert.proofs.probes.Probes.is_stuck.Given as goal
 
 abbrev pub invariant-loop-d : goal.invariant-loop-d
-invariant-loop-d l = list_any (λ d. is_stuck (slice_index_or l.self.here.items d [])) (from_to l.d (length l.closed.model.now.dimensions)) ≡ is_stuck_in_some l.closed.model.now l.self
+invariant-loop-d l = list_any (λ d. is_stuck (slice_index_or l.self.here.items d [])) (from_to l.d (length l.closed.model.now.dimensions))
+    ≡ is_stuck_in_some l.closed.model.now l.self

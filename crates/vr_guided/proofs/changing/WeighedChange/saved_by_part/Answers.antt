@@ -26,7 +26,8 @@ returns-clause-most c =
     let next = some_next (drop splice.result.behind list) (vehicle_at m v).end in
     let saved : (route_weight m p v list -ℤ route_weight m p v (joined lists pieces)) ≤ℤ c.old_stretch.result
     = subst (λ z. (route_weight m p v list -ℤ route_weight m p v (joined lists pieces)) ≤ℤ z) (sym (o.total next.0 next.1.0 next.1.1))
-    (part_saved m it.weights.closed.well_formed p it.weights.few v part.of_model lists pieces splice.result.middle.now splice.result.front splice.result.behind next.0 next.1.0 splice.ensures.ends next.1.1 part.nodes) in
+    (part_saved m it.weights.closed.well_formed p it.weights.few v part.of_model lists pieces splice.result.middle.now
+    splice.result.front splice.result.behind next.0 next.1.0 splice.ensures.ends next.1.1 part.nodes) in
     let same : to_z w128 (of_z w128 c.old_stretch.result) ≡ c.old_stretch.result = omega (arith, ints, o.low, o.high) in
     let there = ap (λ u. route_weight m p u (joined lists pieces) -ℤ route_weight m p u (route lists u)) splice.ensures.vehicle in
     omega (arith, ints, same, saved, there)

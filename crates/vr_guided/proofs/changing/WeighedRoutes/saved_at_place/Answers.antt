@@ -13,5 +13,6 @@ returns-clause-most c = λ place.
     let low = c.requires in
     let o = c.old_stretch.ensures in
     let same : to_z w128 (of_z w128 c.old_stretch.result) ≡ c.old_stretch.result = omega (arith, ints, o.low, o.high) in
-    taken_most here.weights.closed.model.now here.weights.closed.well_formed (counted here.weights.penalties.now) here.weights.few here.routes.now.lists here.valid c.args.v (omega (arith, many, low)) c.args.a (c.args.a + 1) _ (omega arith)
+    taken_most here.weights.closed.model.now here.weights.closed.well_formed (counted here.weights.penalties.now)
+    here.weights.few here.routes.now.lists here.valid c.args.v (omega (arith, many, low)) c.args.a (c.args.a + 1) _ (omega arith)
     (λ next others e. let value = o.total next others e in omega (arith, ints, same, value))

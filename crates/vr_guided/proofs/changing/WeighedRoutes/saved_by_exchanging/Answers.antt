@@ -14,8 +14,10 @@ returns-then-touched-clause-most c =
     let here = c.args.self.now in
     let o = c.saved_by_lists.ensures in
     let same : to_z w128 (of_z w128 c.saved_by_lists.result) ≡ c.saved_by_lists.result = omega (arith, ints, o.low, o.high) in
-    subst (SavesAtMost here.weights.closed.model.now (counted here.weights.penalties.now) here.routes.now.lists (Exchange c.args.touched.first c.args.a c.args.touched.second 0)) (sym same)
-    (run_saved here.weights.closed.model.now here.weights.closed.well_formed (counted here.weights.penalties.now) here.weights.few here.routes.now.lists here.valid
+    subst (SavesAtMost here.weights.closed.model.now (counted here.weights.penalties.now)
+    here.routes.now.lists (Exchange c.args.touched.first c.args.a c.args.touched.second 0)) (sym same)
+    (run_saved here.weights.closed.model.now here.weights.closed.well_formed
+    (counted here.weights.penalties.now) here.weights.few here.routes.now.lists here.valid
     (Exchange c.args.touched.first c.args.a c.args.touched.second 0) c.args.touched refl c.saved_by_lists.result o.most)
 
 pub returns-clause-most : goal.returns-clause-most
@@ -24,6 +26,9 @@ returns-clause-most c =
     let o = c.saved_at_place.ensures in
     let q = c.most_of.ensures in
     let most = c.most_of.result.now.most_at_place in
-    let same : to_z w128 (of_z w128 (to_z w128 (of_z w128 c.saved_at_place.result) +ℤ to_z w128 (of_z w128 most))) ≡ c.saved_at_place.result +ℤ most = omega (arith, ints, o.low, o.high, q.place_in_range.at_least, q.place_in_range.at_most) in
-    subst (SavesAtMost here.weights.closed.model.now (counted here.weights.penalties.now) here.routes.now.lists (Exchange c.args.touched.first c.args.a c.args.touched.second 0)) (sym same)
-    (exchanging here.weights.closed.model.now (counted here.weights.penalties.now) here.routes.now.lists here.valid c.args.touched.first c.args.a c.args.touched.second c.saved_at_place.result most c.if-touched.false o.most q.place)
+    let same : to_z w128 (of_z w128 (to_z w128 (of_z w128 c.saved_at_place.result) +ℤ to_z w128 (of_z w128 most))) ≡ c.saved_at_place.result +ℤ most =
+    omega (arith, ints, o.low, o.high, q.place_in_range.at_least, q.place_in_range.at_most) in
+    subst (SavesAtMost here.weights.closed.model.now (counted here.weights.penalties.now)
+    here.routes.now.lists (Exchange c.args.touched.first c.args.a c.args.touched.second 0)) (sym same)
+    (exchanging here.weights.closed.model.now (counted here.weights.penalties.now) here.routes.now.lists here.valid
+    c.args.touched.first c.args.a c.args.touched.second c.saved_at_place.result most c.if-touched.false o.most q.place)

@@ -30,4 +30,5 @@ returns-then-saved-eq0 c =
     let from = c.requires.at_least in
     let to = c.requires.at_most in
     let none = c.if-saved-eq0.true in
-    none_at_zero c.args.self.now.lambda (pos 0) c.args.saved c.args.self.now.sound.q_in_range.at_least (omega (arith, ints)) (omega (arith, ints, from, to, none))
+    none_at_zero c.args.self.now.lambda (pos 0) c.args.saved c.args.self.now.sound.q_in_range.at_least
+    (omega (arith, ints)) (omega (arith, ints, from, to, none))

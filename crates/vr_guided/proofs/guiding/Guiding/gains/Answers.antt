@@ -19,7 +19,8 @@ returns c =
     let high = at_most (1000 * 2 ^ 100) c.scaled-costs.result c.scaled-costs.ensures.bound in
     let low_2 = at_least (1000 * 2 ^ 100) c.scaled.result c.scaled.ensures.bound in
     let high_2 = at_most (1000 * 2 ^ 100) c.scaled.result c.scaled.ensures.bound in
-    let sum : to_z w128 (of_z w128 (to_z w128 (of_z w128 c.scaled-costs.result) +ℤ to_z w128 (of_z w128 c.scaled.result))) ≡ c.scaled-costs.result +ℤ c.scaled.result = omega (arith, ints, low, high, low_2, high_2) in
+    let sum : to_z w128 (of_z w128 (to_z w128 (of_z w128 c.scaled-costs.result) +ℤ to_z w128 (of_z w128 c.scaled.result)))
+    ≡ c.scaled-costs.result +ℤ c.scaled.result = omega (arith, ints, low, high, low_2, high_2) in
     let s = c.args.self.now.sound in
     let q_from = s.q_in_range.at_least in
     let q_to = s.q_in_range.at_most in

@@ -7,7 +7,8 @@ use Rattle.vr_guided.proofs.guiding.GuidingAccept.accepts_change.Goals as goal
 pub invariant_of-weighed : goal.invariant_of-weighed
 invariant_of-weighed c = record {
   parts = c.requires.change.parts_are;
-  after = lists_after c.args.self.now.weights.closed.model.now c.args.self.now.weights.closed.well_formed c.args.routes.now.lists c.args._mv c.requires.asks.valid c.requires.asks.is_one c.requires.change;
+  after = lists_after c.args.self.now.weights.closed.model.now c.args.self.now.weights.closed.well_formed
+      c.args.routes.now.lists c.args._mv c.requires.asks.valid c.requires.asks.is_one c.requires.change;
 }
 
 pub returns : goal.returns

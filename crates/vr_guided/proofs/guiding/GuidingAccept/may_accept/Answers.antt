@@ -16,7 +16,8 @@ told before after saved most = omega (arith, ints, most)
 pub invariant_of-weighed : goal.invariant_of-weighed
 invariant_of-weighed c = record {
   parts = c.requires.change.parts_are;
-  after = lists_after c.args.self.now.weights.closed.model.now c.args.self.now.weights.closed.well_formed c.args.routes.now.lists c.args._mv c.requires.asks.valid c.requires.asks.is_one c.requires.change;
+  after = lists_after c.args.self.now.weights.closed.model.now c.args.self.now.weights.closed.well_formed
+      c.args.routes.now.lists c.args._mv c.requires.asks.valid c.requires.asks.is_one c.requires.change;
 }
 
 pub returns-then-is_no_gain : goal.returns-then-is_no_gain
@@ -30,10 +31,13 @@ returns-then-is_no_gain c = record {
       let from = c.saved_at_most-saved.ensures.low in
       let to = c.saved_at_most-saved.ensures.high in
       let as_read : to_z w128 (of_z w128 saved) ≡ saved = omega (arith, ints, from, to) in
-      let most = subst (λ ls. (penalised at.weights.closed.model.now p lists -ℤ penalised at.weights.closed.model.now p ls) ≤ℤ saved) c.requires.change.lists_are c.saved_at_most-saved.ensures.most in
+      let most = subst (λ ls. (penalised at.weights.closed.model.now p lists -ℤ penalised at.weights.closed.model.now p ls) ≤ℤ saved)
+      c.requires.change.lists_are c.saved_at_most-saved.ensures.most in
       let none = subst (λ d. is_gain at.lambda d (pos 0 -ℤ saved) ≡ false) same
       (subst (λ z. is_gain at.lambda (to_z w64 (of_z w64 c.args.least)) (pos 0 -ℤ z) ≡ false) as_read (c.is_no_gain.ensures c.if-is_no_gain.true)) in
-      let no_gain = none_saved at.lambda c.args.least (penalised_change at.weights.closed.model.now p lists c.args._mv) saved at.sound.p_in_range.at_least none (told (penalised at.weights.closed.model.now p lists) (penalised at.weights.closed.model.now p (apply at.weights.closed.model.now lists c.args._mv)) saved most) in
+      let no_gain = none_saved at.lambda c.args.least (penalised_change at.weights.closed.model.now p lists c.args._mv) saved at.sound.p_in_range.at_least
+      none (told (penalised at.weights.closed.model.now p lists)
+      (penalised at.weights.closed.model.now p (apply at.weights.closed.model.now lists c.args._mv)) saved most) in
       passed_over at.weights.closed.model.now at.lambda p lists c.args._mv c.args.least at.sound.q_in_range.at_least no_gain low);
 }
 

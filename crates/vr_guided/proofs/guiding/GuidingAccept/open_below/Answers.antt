@@ -19,8 +19,10 @@ returns c = record {
       let high = s.high in
       let as_read : to_z w128 (of_z w128 saved) ≡ saved = omega (arith, ints, low, high) in
       let none = subst (λ z. IfSome c.enough_against.result (λ e. is_gain at.lambda e (pos 0 -ℤ z) ≡ false)) as_read c.enough_against.ensures in
-      enough_for_run at.weights.closed.model.now (counted at.weights.penalties.now) at.lambda at.sound.p_in_range.at_least at.sound.q_in_range.at_least lists c.args.mv saved s.most c.enough_against.result none);
+      enough_for_run at.weights.closed.model.now (counted at.weights.penalties.now) at.lambda at.sound.p_in_range.at_least
+      at.sound.q_in_range.at_least lists c.args.mv saved s.most c.enough_against.result none);
 }
 
 pub saved_in_run-saved-requires-clause-found : goal.saved_in_run-saved-requires-clause-found
-saved_in_run-saved-requires-clause-found c = subst (AreFound c.args.self.now.weights.closed.model.now c.args.routes.now.lists c.args.mv) c.in-Some.is c.found.ensures
+saved_in_run-saved-requires-clause-found c =
+    subst (AreFound c.args.self.now.weights.closed.model.now c.args.routes.now.lists c.args.mv) c.in-Some.is c.found.ensures

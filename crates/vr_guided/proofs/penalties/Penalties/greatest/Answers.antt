@@ -11,13 +11,19 @@ use Rattle.vr_guided.proofs.penalties.Penalties.greatest.Goals as goal
 
 pub loop-vehicle-init : goal.loop-vehicle-init
 loop-vehicle-init c =
-    ap (λ k. greatest_worth (worth_of c.args.closed.model.now (counted c.args.self.now)) worthless (each (range_with_len 0 k) (λ v. arcs_of c.args.closed.model.now v (route c.args.routes.now.lists v)))) (vehicles_left c.args.closed.model.now c.args.routes.now.lists c.requires.valid)
+    ap (λ k. greatest_worth (worth_of c.args.closed.model.now (counted c.args.self.now)) worthless
+    (each (range_with_len 0 k) (λ v. arcs_of c.args.closed.model.now v (route c.args.routes.now.lists v))))
+    (vehicles_left c.args.closed.model.now c.args.routes.now.lists c.requires.valid)
 
 pub list-requires : goal.list-requires
-list-requires c = record { vehicle = has_list c.args.closed.model.now c.args.routes.now.lists c.requires.valid c.loop-vehicle-test.true c.len-vehicle-end.ensures }
+list-requires c =
+    record { vehicle = has_list c.args.closed.model.now c.args.routes.now.lists c.requires.valid c.loop-vehicle-test.true c.len-vehicle-end.ensures }
 
 pub invariant_of-list : goal.invariant_of-list
-invariant_of-list c = record { there = omega (arith, c.loop-vehicle-test.true, c.len-vehicle-end.ensures); few = few_nodes c.args.closed.model.now c.args.routes.now.lists c.requires.valid c.args.closed.well_formed c.loop-vehicle.vehicle c.list.ensures.value }
+invariant_of-list c = record {
+  there = omega (arith, c.loop-vehicle-test.true, c.len-vehicle-end.ensures);
+  few = few_nodes c.args.closed.model.now c.args.routes.now.lists c.requires.valid c.args.closed.well_formed c.loop-vehicle.vehicle c.list.ensures.value;
+}
 
 pub loop-vehicle-preserved : goal.loop-vehicle-preserved
 loop-vehicle-preserved c =

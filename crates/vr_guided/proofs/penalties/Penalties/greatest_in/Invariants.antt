@@ -7,7 +7,8 @@ use Rattle.vr_guided.proofs.penalties.Penalties.greatest_in.Given as goal
 -- the arcs so far are counted, and those from here on are left
 abbrev pub invariant-loop-node : goal.invariant-loop-node
 invariant-loop-node l = record {
-  goes : greatest_worth (worth_of l.list.closed.model.now (counted l.self)) l.best (arcs_from l.list.vehicle l.at (drop l.node-index l.nodes ++ l.ends.end ∷ []))
+  goes : greatest_worth (worth_of l.list.closed.model.now (counted l.self)) l.best
+      (arcs_from l.list.vehicle l.at (drop l.node-index l.nodes ++ l.ends.end ∷ []))
       ≡ greatest_worth (worth_of l.list.closed.model.now (counted l.self)) l.fn.so_far (arcs_from l.list.vehicle l.ends.start (l.nodes ++ l.ends.end ∷ []));
   at : l.at < l.list.closed.model.now.nodes;
 }

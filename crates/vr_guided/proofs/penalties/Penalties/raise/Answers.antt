@@ -15,8 +15,11 @@ loop-vehicle-init c =
     let lists = c.args.routes.now.lists in
     let old = counted c.args.self.now in
     record {
-      goes = ap (λ best. raised_in_turn model best old (each (range_with_len 0 (length model.vehicles - 0)) (λ v. arcs_of model v (route lists v)))) c.greatest-greatest.ensures
-          ∙ (ap (λ k. raised_in_turn model (greatest_worth (worth_of model old) worthless (used_arcs model lists)) old (each (range_with_len 0 k) (λ v. arcs_of model v (route lists v)))) (vehicles_left c.args.closed.model.now c.args.routes.now.lists c.requires.valid)
+      goes = ap (λ best. raised_in_turn model best old (each (range_with_len 0 (length model.vehicles - 0)) (λ v. arcs_of model v (route lists v))))
+          c.greatest-greatest.ensures
+          ∙ (ap (λ k. raised_in_turn model (greatest_worth (worth_of model old) worthless (used_arcs model lists))
+          old (each (range_with_len 0 k) (λ v. arcs_of model v (route lists v))))
+          (vehicles_left c.args.closed.model.now c.args.routes.now.lists c.requires.valid)
           ∙ raised_all model old lists c.requires.costly);
       nodes = c.requires.counts.covers;
       few = at_most_more old 1000000000 _ (omega arith) c.requires.counts.few;
@@ -57,7 +60,11 @@ pub returns-clause-learns : goal.returns-clause-learns
 returns-clause-learns c h = c.loop-vehicle.invariant.learns (c.settle.ensures.learns h)
 
 pub list-requires : goal.list-requires
-list-requires c = record { vehicle = has_list c.args.closed.model.now c.args.routes.now.lists c.requires.valid c.loop-vehicle-test.true c.len-vehicle-end.ensures }
+list-requires c =
+    record { vehicle = has_list c.args.closed.model.now c.args.routes.now.lists c.requires.valid c.loop-vehicle-test.true c.len-vehicle-end.ensures }
 
 pub invariant_of-list : goal.invariant_of-list
-invariant_of-list c = record { there = omega (arith, c.loop-vehicle-test.true, c.len-vehicle-end.ensures); few = few_nodes c.args.closed.model.now c.args.routes.now.lists c.requires.valid c.args.closed.well_formed c.loop-vehicle.vehicle c.list.ensures.value }
+invariant_of-list c = record {
+  there = omega (arith, c.loop-vehicle-test.true, c.len-vehicle-end.ensures);
+  few = few_nodes c.args.closed.model.now c.args.routes.now.lists c.requires.valid c.args.closed.well_formed c.loop-vehicle.vehicle c.list.ensures.value;
+}

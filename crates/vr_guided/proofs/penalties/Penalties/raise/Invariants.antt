@@ -14,7 +14,8 @@ use Rattle.vr_guided.proofs.penalties.Penalties.raise.Given as goal
 -- the vehicles so far are raised, and those from here on are left
 abbrev pub invariant-loop-vehicle : goal.invariant-loop-vehicle
 invariant-loop-vehicle l = record {
-  goes : raised_in_turn l.closed.model.now l.greatest (counted l.self) (each (range_with_len l.vehicle (length l.closed.model.now.vehicles - l.vehicle)) (λ v. arcs_of l.closed.model.now v (route l.routes.lists v)))
+  goes : raised_in_turn l.closed.model.now l.greatest (counted l.self)
+      (each (range_with_len l.vehicle (length l.closed.model.now.vehicles - l.vehicle)) (λ v. arcs_of l.closed.model.now v (route l.routes.lists v)))
       ≡ raised l.closed.model.now (counted l.initial.self) l.routes.lists;
   nodes : l.self.nodes ≡ l.closed.model.now.nodes;
   few : AtMost (1000000000 + 1001 * l.vehicle) (counted l.self);

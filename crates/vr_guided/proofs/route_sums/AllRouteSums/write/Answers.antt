@@ -7,7 +7,8 @@ use Rattle.vr_guided.proofs.route_sums.AllRouteSums.write.Goals as goal
 pub loop-v-preserved : goal.loop-v-preserved
 loop-v-preserved c = record {
   many = c.write_of.ensures.long ∙ c.loop-v.invariant.many;
-  each = written_more c.args.weights.closed.model.now (counted c.args.weights.penalties.now) c.args.routes.now.lists c.loop-v.v c.loop-v.self c.write_of.new.self
+  each =
+      written_more c.args.weights.closed.model.now (counted c.args.weights.penalties.now) c.args.routes.now.lists c.loop-v.v c.loop-v.self c.write_of.new.self
       (omega (arith, c.loop-v.invariant.many, c.loop-v-test.true, c.len-v-end.ensures)) c.loop-v.invariant.each c.write_of.ensures;
 }
 

@@ -9,5 +9,6 @@ use Rattle.vr_guided.proofs.route_sums.AllRouteSums.write.Given as goal
 abbrev pub invariant-loop-v : goal.invariant-loop-v
 invariant-loop-v l = record {
   many : length l.self ≡ length l.weights.closed.model.now.vehicles;
-  each : (w : ℕ) → w < l.v → AreRouteSums l.weights.closed.model.now (counted l.weights.penalties.now) w (route l.routes.lists w) (slice_index_or l.self w no_route_sums);
+  each : (w : ℕ) → w < l.v
+      → AreRouteSums l.weights.closed.model.now (counted l.weights.penalties.now) w (route l.routes.lists w) (slice_index_or l.self w no_route_sums);
 }

@@ -14,10 +14,13 @@ returns-clause-value c =
     let place = c.requires.place in
     let few = c.requires.few in
     let low : c.args.from < length xs = omega (arith, order, place) in
-    let at_to : slice_index_or c.deref.result.now c.args.to (pos 0) ≡ number_at xs c.args.to = ap (λ l. number_at l c.args.to) (c.deref.ensures.0 ∙ c.self.view_is) in
-    let at_from : slice_index_or c.deref-2.result.now c.args.from (pos 0) ≡ number_at xs c.args.from = ap (λ l. number_at l c.args.from) (c.deref-2.ensures.0 ∙ c.self.view_is) in
+    let at_to : slice_index_or c.deref.result.now c.args.to (pos 0) ≡ number_at xs c.args.to = ap (λ l. number_at l c.args.to)
+    (c.deref.ensures.0 ∙ c.self.view_is) in
+    let at_from : slice_index_or c.deref-2.result.now c.args.from (pos 0) ≡ number_at xs c.args.from = ap (λ l. number_at l c.args.from)
+    (c.deref-2.ensures.0 ∙ c.self.view_is) in
     ap₂ (λ x y. to_z w128 (of_z w128 (to_z w128 (of_z w128 x) -ℤ to_z w128 (of_z w128 y)))) at_to at_from
-    ∙ read-between (number_at xs c.args.to) (number_at xs c.args.from) c.args.to c.args.from (range c.args.to place) (range c.args.from low) few (omega (arith, order, few))
+    ∙ read-between (number_at xs c.args.to) (number_at xs c.args.from) c.args.to c.args.from
+    (range c.args.to place) (range c.args.from low) few (omega (arith, order, few))
 
 pub returns-clause-high : goal.returns-clause-high
 returns-clause-high c =
@@ -27,10 +30,13 @@ returns-clause-high c =
     let place = c.requires.place in
     let few = c.requires.few in
     let low : c.args.from < length xs = omega (arith, order, place) in
-    let at_to : slice_index_or c.deref.result.now c.args.to (pos 0) ≡ number_at xs c.args.to = ap (λ l. number_at l c.args.to) (c.deref.ensures.0 ∙ c.self.view_is) in
-    let at_from : slice_index_or c.deref-2.result.now c.args.from (pos 0) ≡ number_at xs c.args.from = ap (λ l. number_at l c.args.from) (c.deref-2.ensures.0 ∙ c.self.view_is) in
+    let at_to : slice_index_or c.deref.result.now c.args.to (pos 0) ≡ number_at xs c.args.to = ap (λ l. number_at l c.args.to)
+    (c.deref.ensures.0 ∙ c.self.view_is) in
+    let at_from : slice_index_or c.deref-2.result.now c.args.from (pos 0) ≡ number_at xs c.args.from = ap (λ l. number_at l c.args.from)
+    (c.deref-2.ensures.0 ∙ c.self.view_is) in
     let value = ap₂ (λ x y. to_z w128 (of_z w128 (to_z w128 (of_z w128 x) -ℤ to_z w128 (of_z w128 y)))) at_to at_from
-    ∙ read-between (number_at xs c.args.to) (number_at xs c.args.from) c.args.to c.args.from (range c.args.to place) (range c.args.from low) few (omega (arith, order, few)) in
+    ∙ read-between (number_at xs c.args.to) (number_at xs c.args.from) c.args.to c.args.from
+    (range c.args.to place) (range c.args.from low) few (omega (arith, order, few)) in
     apart-high _ (number_at xs c.args.to) (number_at xs c.args.from) c.args.to c.args.from value (range c.args.to place) (range c.args.from low) few
 
 pub returns-clause-low : goal.returns-clause-low
@@ -41,8 +47,12 @@ returns-clause-low c =
     let place = c.requires.place in
     let few = c.requires.few in
     let low : c.args.from < length xs = omega (arith, order, place) in
-    let at_to : slice_index_or c.deref.result.now c.args.to (pos 0) ≡ number_at xs c.args.to = ap (λ l. number_at l c.args.to) (c.deref.ensures.0 ∙ c.self.view_is) in
-    let at_from : slice_index_or c.deref-2.result.now c.args.from (pos 0) ≡ number_at xs c.args.from = ap (λ l. number_at l c.args.from) (c.deref-2.ensures.0 ∙ c.self.view_is) in
+    let at_to : slice_index_or c.deref.result.now c.args.to (pos 0) ≡ number_at xs c.args.to = ap (λ l. number_at l c.args.to)
+    (c.deref.ensures.0 ∙ c.self.view_is) in
+    let at_from : slice_index_or c.deref-2.result.now c.args.from (pos 0) ≡ number_at xs c.args.from = ap (λ l. number_at l c.args.from)
+    (c.deref-2.ensures.0 ∙ c.self.view_is) in
     let value = ap₂ (λ x y. to_z w128 (of_z w128 (to_z w128 (of_z w128 x) -ℤ to_z w128 (of_z w128 y)))) at_to at_from
-    ∙ read-between (number_at xs c.args.to) (number_at xs c.args.from) c.args.to c.args.from (range c.args.to place) (range c.args.from low) few (omega (arith, order, few)) in
-    apart-low _ (number_at xs c.args.to) (number_at xs c.args.from) c.args.to c.args.from value (range c.args.to place) (range c.args.from low) (omega (arith, order, few))
+    ∙ read-between (number_at xs c.args.to) (number_at xs c.args.from) c.args.to c.args.from
+    (range c.args.to place) (range c.args.from low) few (omega (arith, order, few)) in
+    apart-low _ (number_at xs c.args.to) (number_at xs c.args.from) c.args.to c.args.from
+    value (range c.args.to place) (range c.args.from low) (omega (arith, order, few))

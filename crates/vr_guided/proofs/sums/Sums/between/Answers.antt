@@ -14,8 +14,11 @@ returns c f v node nodes are =
     let place = c.requires.place in
     let few = c.requires.few in
     let low : c.args.from < length xs = omega (arith, order, place) in
-    let at_to : slice_index_or c.deref.result.now c.args.to (pos 0) ≡ number_at xs c.args.to = ap (λ l. number_at l c.args.to) (c.deref.ensures.0 ∙ c.self.view_is) in
-    let at_from : slice_index_or c.deref-2.result.now c.args.from (pos 0) ≡ number_at xs c.args.from = ap (λ l. number_at l c.args.from) (c.deref-2.ensures.0 ∙ c.self.view_is) in
+    let at_to : slice_index_or c.deref.result.now c.args.to (pos 0) ≡ number_at xs c.args.to = ap (λ l. number_at l c.args.to)
+    (c.deref.ensures.0 ∙ c.self.view_is) in
+    let at_from : slice_index_or c.deref-2.result.now c.args.from (pos 0) ≡ number_at xs c.args.from = ap (λ l. number_at l c.args.from)
+    (c.deref-2.ensures.0 ∙ c.self.view_is) in
     ap₂ (λ x y. to_z w128 (of_z w128 (to_z w128 (of_z w128 x) -ℤ to_z w128 (of_z w128 y)))) at_to at_from
-    ∙ (read-between (number_at xs c.args.to) (number_at xs c.args.from) c.args.to c.args.from (range c.args.to place) (range c.args.from low) few (omega (arith, order, few))
+    ∙ (read-between (number_at xs c.args.to) (number_at xs c.args.from) c.args.to c.args.from
+    (range c.args.to place) (range c.args.from low) few (omega (arith, order, few))
     ∙ sums-between f v node nodes xs c.args.from c.args.to are order place)

@@ -12,7 +12,8 @@ loop-k-preserved c =
     let o = c.apart.ensures in
     let m = c.loop-k.invariant in
     let same : to_z w128 (of_z w128 c.apart.result) ≡ c.apart.result = omega (arith, ints, o.low, o.high) in
-    most-more c.args.self.now c.args.arcs c.loop-k.k _ (to_z w128 (of_z w128 c.apart.result)) (to_z w128 (of_z w128 c.greater-most.result)) m (same ∙ o.value) (omega (arith, ints, same, o.high))
+    most-more c.args.self.now c.args.arcs c.loop-k.k _ (to_z w128 (of_z w128 c.apart.result))
+    (to_z w128 (of_z w128 c.greater-most.result)) m (same ∙ o.value) (omega (arith, ints, same, o.high))
     (omega (arith, ints, clamps, c.greater-most.ensures, m.low, m.high, same, o.low, o.high))
 
 pub returns-clause-range : goal.returns-clause-range

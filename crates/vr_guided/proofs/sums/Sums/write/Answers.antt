@@ -36,7 +36,8 @@ loop-node-preserved c =
     let same : to_z w128 (of_z w128 c.weight_by.result) ≡ c.weight_by.result = omega (arith, ints, w_low, w_high) in
     let weight = same ∙ (c.weight_by.ensures.value ∙ ap (λ x. f (record { vehicle = c.args.list.now.arcs.vehicle; origin = x; target = node })) inv.at) in
     record {
-      sums = subst (λ xs. AreArcSums f c.args.list.now.arcs.vehicle start xs c.add.new.self) (sym more) (sums-push f c.args.list.now.arcs.vehicle start (take k list) node c.loop-node.self c.add.new.self _ inv.sums weight c.add.ensures);
+      sums = subst (λ xs. AreArcSums f c.args.list.now.arcs.vehicle start xs c.add.new.self) (sym more)
+          (sums-push f c.args.list.now.arcs.vehicle start (take k list) node c.loop-node.self c.add.new.self _ inv.sums weight c.add.ensures);
       at = sym (last_behind start node (take k list)) ∙ ap (last_of start) (sym more);
       below = c.args.list.now.few.below k 0 low;
     }
@@ -51,7 +52,10 @@ returns c =
     let w_low = c.weight_by-2.ensures.range.at_least in
     let w_high = c.weight_by-2.ensures.range.at_most in
     let same : to_z w128 (of_z w128 c.weight_by-2.result) ≡ c.weight_by-2.result = omega (arith, ints, w_low, w_high) in
-    let weight = same ∙ (c.weight_by-2.ensures.value ∙ ap₂ (λ x y. f (record { vehicle = arcs.vehicle; origin = x; target = y })) inv.at c.ends-ends.ensures.end) in
-    let all : take c.loop-node.node-index list ≡ list = take_all c.loop-node.node-index list (let last = c.loop-node.auto.node-index-end in omega (arith, last, c.loop-node-test.false)) in
-    let whole = sums-push f arcs.vehicle ends.start (take c.loop-node.node-index list) ends.end c.loop-node.self c.add-2.new.self _ inv.sums weight c.add-2.ensures in
+    let weight = same
+    ∙ (c.weight_by-2.ensures.value ∙ ap₂ (λ x y. f (record { vehicle = arcs.vehicle; origin = x; target = y })) inv.at c.ends-ends.ensures.end) in
+    let all : take c.loop-node.node-index list ≡ list = take_all c.loop-node.node-index list
+    (let last = c.loop-node.auto.node-index-end in omega (arith, last, c.loop-node-test.false)) in
+    let whole = sums-push f arcs.vehicle ends.start (take c.loop-node.node-index list)
+    ends.end c.loop-node.self c.add-2.new.self _ inv.sums weight c.add-2.ensures in
     subst (λ xs. AreArcSums f arcs.vehicle ends.start (xs ++ ends.end ∷ []) c.add-2.new.self) all whole

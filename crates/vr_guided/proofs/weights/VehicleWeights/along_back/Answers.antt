@@ -6,7 +6,8 @@ use Rattle.vr_guided.proofs.weights.VehicleWeights.along_back.Goals as goal
 
 pub loop-place-init : goal.loop-place-init
 loop-place-init c = record {
-  goes = ap (λ xs. walked c.args.self.now.weights.closed.model.now (counted c.args.self.now.weights.penalties.now) c.args.self.now.vehicle c.args.walk.now (reverse xs)) (take_all (length c.args.nodes.now) c.args.nodes.now (omega arith));
+  goes = ap (λ xs. walked c.args.self.now.weights.closed.model.now (counted c.args.self.now.weights.penalties.now)
+      c.args.self.now.vehicle c.args.walk.now (reverse xs)) (take_all (length c.args.nodes.now) c.args.nodes.now (omega arith));
   sound = c.requires.sound;
   high = omega arith;
   arcs = refl;

@@ -6,7 +6,8 @@ use Rattle.vr_guided.proofs.weights.VehicleWeights.along_back.Given as goal
 -- the walk went through the nodes from this place on, and those before it are left
 abbrev pub invariant-loop-place : goal.invariant-loop-place
 invariant-loop-place l = record {
-  goes : walked l.self.weights.closed.model.now (counted l.self.weights.penalties.now) l.self.vehicle l.walk (reverse (take l.place l.nodes)) ≡ walked l.self.weights.closed.model.now (counted l.self.weights.penalties.now) l.self.vehicle l.initial.walk (reverse l.nodes);
+  goes : walked l.self.weights.closed.model.now (counted l.self.weights.penalties.now) l.self.vehicle l.walk (reverse (take l.place l.nodes))
+      ≡ walked l.self.weights.closed.model.now (counted l.self.weights.penalties.now) l.self.vehicle l.initial.walk (reverse l.nodes);
   sound : IsSoundWalk l.self.weights.closed.model.now.nodes l.walk;
   high : l.place ≤ length l.nodes;
   arcs : l.walk.arcs + l.place ≡ l.initial.walk.arcs + length l.nodes;

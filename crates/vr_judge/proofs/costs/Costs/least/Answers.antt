@@ -20,26 +20,44 @@ write_after-requires-clause-nodes c k low =
     let parts = c.args.change.now in
     let lists : List (List ℕ) = c.args.routes.now.lists in
     let h = c.requires.stands in
-    let same : c.args.self.now.plans.model ≡ c.self.inside.earliest.model = h.plans_model ∙ sym h.earliest_model ∙ sym (ap (λ k. k.earliest.model) c.self.view_is) in
+    let same : c.args.self.now.plans.model ≡ c.self.inside.earliest.model = h.plans_model
+    ∙ sym h.earliest_model ∙ sym (ap (λ k. k.earliest.model) c.self.view_is) in
     subst (λ (m : Model). All (λ node. node < m.nodes) (joined lists (part_at parts k).pieces)) same
     (below-after c.args.self.now.plans.model c.args.routes.now h.plans.of_model h.plans.valid parts c.requires.made k low)
 
 -- what is told of the lists after the change, as the parts see it that stand there
-module _ (inside kept : KeptCosts) (seen : inside ≡ kept) (tours : Tours) (h : StandsCosts kept tours) (parts : List ListAfter) (made : IsMadeOn tours parts) (rows : List (List Early)) (told : AreEarlies inside.earliest.model tours.lists parts rows) where
+module _ (inside kept : KeptCosts) (seen : inside ≡ kept) (tours : Tours) (h : StandsCosts kept tours) (parts : List ListAfter)
+    (made : IsMadeOn tours parts) (rows : List (List Early)) (told : AreEarlies inside.earliest.model tours.lists parts rows) where
   old : StandsCosts inside tours
   old = subst (λ (k : KeptCosts). StandsCosts k tours) (sym seen) h
 
   plans-told : ArePlansKnown inside.plans rows parts tours
-  plans-told = record { stands = old.plans; made = made; earlies = subst (λ (m : Model). AreEarlies m tours.lists parts rows) (old.earliest_model ∙ sym old.plans_model) told }
+  plans-told = record {
+    stands = old.plans;
+    made = made;
+    earlies = subst (λ (m : Model). AreEarlies m tours.lists parts rows) (old.earliest_model ∙ sym old.plans_model) told;
+  }
 
   spans-told : AreSpansKnown inside.spans rows parts tours
-  spans-told = record { stands = old.spans; made = made; earlies = subst (λ (m : Model). AreEarlies m tours.lists parts rows) (old.earliest_model ∙ sym old.spans_model) told }
+  spans-told = record {
+    stands = old.spans;
+    made = made;
+    earlies = subst (λ (m : Model). AreEarlies m tours.lists parts rows) (old.earliest_model ∙ sym old.spans_model) told;
+  }
 
 pub least-plans-requires : goal.least-plans-requires
-least-plans-requires c = (c.args.routes.now, plans-told _ c.args.self.now c.self.view_is c.args.routes.now c.requires.stands c.args.change.now c.requires.made c.write_after.new.out c.write_after.ensures)
+least-plans-requires c = (
+  c.args.routes.now,
+  plans-told _ c.args.self.now c.self.view_is c.args.routes.now c.requires.stands
+      c.args.change.now c.requires.made c.write_after.new.out c.write_after.ensures,
+)
 
 pub least-spans-requires : goal.least-spans-requires
-least-spans-requires c = (c.args.routes.now, spans-told _ c.args.self.now c.self.view_is c.args.routes.now c.requires.stands c.args.change.now c.requires.made c.write_after.new.out c.write_after.ensures)
+least-spans-requires c = (
+  c.args.routes.now,
+  spans-told _ c.args.self.now c.self.view_is c.args.routes.now c.requires.stands
+      c.args.change.now c.requires.made c.write_after.new.out c.write_after.ensures,
+)
 
 bounded : (c : After-least-spans) → AreChangesInRange c.added-arcs.result c.added-fixed.result c.least-groups.result c.least-plans.result c.least-spans.result
 bounded c = record {
@@ -62,7 +80,8 @@ returns-clause-least c valid =
     let seen = c.self.view_is in
     let plans = plans-told _ c.args.self.now seen c.args.routes.now h c.args.change.now c.requires.made c.write_after.new.out c.write_after.ensures in
     let spans = spans-told _ c.args.self.now seen c.args.routes.now h c.args.change.now c.requires.made c.write_after.new.out c.write_after.ensures in
-    subst (λ x. x ≤ℤ (cost model later -ℤ cost model lists)) (sym (read_sum _ _ _ _ _ (bounded (goal.at.returns-clause-least c).After-least-spans) _ c.sum.ensures))
+    subst (λ x. x ≤ℤ (cost model later -ℤ cost model lists))
+    (sym (read_sum _ _ _ _ _ (bounded (goal.at.returns-clause-least c).After-least-spans) _ c.sum.ensures))
     (adds_least model lists later
     (adds_as arcs_part lists later (ap (λ k. k.arcs.model) seen ∙ h.arcs_model) c.added-arcs.ensures.exact)
     (adds_as fixed_part lists later (ap (λ k. k.fixed.model) seen ∙ h.fixed_model) c.added-fixed.ensures.exact)

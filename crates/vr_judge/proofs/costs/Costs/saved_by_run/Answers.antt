@@ -41,10 +41,13 @@ returns-then-pays_none-clause-least c =
     let pays = h.arcs_and_groups (ap (λ k. k.arcs_and_groups) (sym c.self.view_is) ∙ c.if-not-self.false) in
     let valid = subst (λ (m : Model). IsTrue (is_valid m lists)) h.groups_model h.groups.valid in
     let well = subst IsWellFormed h.groups_model h.groups.well_formed in
-    let total : penalty_part model lists ≡ c.self.inside.groups.total = ap (λ (m : Model). penalty_part m lists) (sym h.groups_model) ∙ sym h.groups.total_is ∙ ap (λ k. k.groups.total) (sym c.self.view_is) in
+    let total : penalty_part model lists ≡ c.self.inside.groups.total = ap (λ (m : Model). penalty_part m lists) (sym h.groups_model)
+    ∙ sym h.groups.total_is ∙ ap (λ k. k.groups.total) (sym c.self.view_is) in
     elim c.then-pays_none.branch [
-      | then-pays_none-via-then-pays_none w ↦ none_to_pay model pays lists valid well (total ∙ eq_of_tests _ (pos 0) (sym c.pays_none.ensures ∙ w.if-pays_none.true)) c.args.mv
-      | then-pays_none-via-else-pays_none+then-keeps_activity w ↦ same_to_pay model pays lists valid c.args.mv (not-true (changes_activity (kind_of c.args.mv)) (sym w.keeps_activity.ensures ∙ w.if-keeps_activity.true))
+      | then-pays_none-via-then-pays_none w ↦
+          none_to_pay model pays lists valid well (total ∙ eq_of_tests _ (pos 0) (sym c.pays_none.ensures ∙ w.if-pays_none.true)) c.args.mv
+      | then-pays_none-via-else-pays_none+then-keeps_activity w ↦ same_to_pay model pays lists valid c.args.mv
+          (not-true (changes_activity (kind_of c.args.mv)) (sym w.keeps_activity.ensures ∙ w.if-keeps_activity.true))
     ]
 
 pub returns-clause-least : goal.returns-clause-least
@@ -56,4 +59,5 @@ returns-clause-least c =
     let valid = subst (λ (m : Model). IsTrue (is_valid m lists)) h.groups_model h.groups.valid in
     let same : c.self.inside.groups.model ≡ model = ap (λ k. k.groups.model) c.self.view_is ∙ h.groups_model in
     all_save model pays lists valid c.args.mv c.saved_at_most_by_run.result
-    (subst (λ (m : Model). IfSome c.saved_at_most_by_run.result (λ saved. (k : ℕ) → SavesAtMost m lists (with_last c.args.mv k) saved)) same c.saved_at_most_by_run.ensures.at_most)
+    (subst (λ (m : Model). IfSome c.saved_at_most_by_run.result (λ saved. (k : ℕ) → SavesAtMost m lists (with_last c.args.mv k) saved))
+    same c.saved_at_most_by_run.ensures.at_most)

@@ -17,7 +17,8 @@ judge_by-requires-clause-costs g c = c.requires.holds.committed.costs_stand
 pub judge_by-requires-clause-rule : goal.judge_by-requires-clause-rule
 judge_by-requires-clause-rule g c =
     let after = changed c.args.routes.now.lists c.args.change.now in
-    holds_as_valid c.requires.holds.committed c.requires.holds.valid c.requires.well_formed c.args._mv c.requires.mv after c.requires.change.lists_are ∙ ap (λ m. is_valid m after) (sym c.requires.holds.committed.costs_model)
+    holds_as_valid c.requires.holds.committed c.requires.holds.valid c.requires.well_formed c.args._mv c.requires.mv after c.requires.change.lists_are
+    ∙ ap (λ m. is_valid m after) (sym c.requires.holds.committed.costs_model)
 
 pub returns-clause-verdict : goal.returns-clause-verdict
 returns-clause-verdict g c =
@@ -28,4 +29,5 @@ returns-clause-verdict g c =
 
 pub returns-clause-committed : goal.returns-clause-committed
 returns-clause-committed g c =
-    stands_on c.requires.holds.committed refl refl c.judge_by.ensures.same_rule c.judge_by.ensures.same_weight c.judge_by.ensures.filter c.judge_by.ensures.model c.judge_by.ensures.costs
+    stands_on c.requires.holds.committed refl refl c.judge_by.ensures.same_rule c.judge_by.ensures.same_weight
+    c.judge_by.ensures.filter c.judge_by.ensures.model c.judge_by.ensures.costs

@@ -8,5 +8,6 @@ use Rattle.vr_known.proofs.stamps.Stamps.learn_below.Given as goal
 -- the rows so far are learned
 abbrev pub invariant-loop-row : goal.invariant-loop-row
 invariant-loop-row l = record {
-  learned : (k : Neighbourhood) (u w : ℕ) → u < rows_of k → IsTrue (is_known l.self k u w) → IsTrue (is_known l.initial.self k u w) ⊎ ((k ≡ l.kind) × (u < l.row));
+  learned : (k : Neighbourhood) (u w : ℕ) → u < rows_of k → IsTrue (is_known l.self k u w)
+      → IsTrue (is_known l.initial.self k u w) ⊎ ((k ≡ l.kind) × (u < l.row));
 }

@@ -16,10 +16,21 @@ loop-p-preserved c =
     elim c.match-vehicle_of.branch [
       | in-Some w ↦ record {
         so = subst (λ s. SettledSoFar model lists begin s (p + 1)) (sym w.self-is)
-            (settles_one model lists begin c.loop-p.self p c.loop-p.invariant.so w.settle_row.new.self w.settle_row-in-Some.new.self w.in-Some.v w.in-Some.ensures.0 c.know_once.ensures
+            (settles_one model lists begin c.loop-p.self p c.loop-p.invariant.so w.settle_row.new.self
+            w.settle_row-in-Some.new.self w.in-Some.v w.in-Some.ensures.0 c.know_once.ensures
             (subst (λ q. IsSeat lists q.pickup w.in-Some.v w.in-Some.ensures.0) same w.in-Some.ensures.1)
-            (record { fewer = w.settle_row.ensures.fewer; earlier = w.settle_row.ensures.earlier; keeps = w.settle_row.ensures.keeps; settled = w.settle_row.ensures.settled })
-            (record { fewer = w.settle_row-in-Some.ensures.fewer; earlier = w.settle_row-in-Some.ensures.earlier; keeps = w.settle_row-in-Some.ensures.keeps; settled = w.settle_row-in-Some.ensures.settled }));
+            (record {
+              fewer = w.settle_row.ensures.fewer;
+              earlier = w.settle_row.ensures.earlier;
+              keeps = w.settle_row.ensures.keeps;
+              settled = w.settle_row.ensures.settled;
+            })
+            (record {
+              fewer = w.settle_row-in-Some.ensures.fewer;
+              earlier = w.settle_row-in-Some.ensures.earlier;
+              keeps = w.settle_row-in-Some.ensures.keeps;
+              settled = w.settle_row-in-Some.ensures.settled;
+            }));
       }
       | in-None w ↦ record {
         so = subst (λ s. SettledSoFar model lists begin s (p + 1)) (sym w.self-is)

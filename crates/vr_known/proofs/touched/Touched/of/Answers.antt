@@ -12,12 +12,14 @@ use Rattle.vr_known.proofs.touched.Touched.of.Goals as goal
 pub returns-in-Some-clause-first : goal.returns-in-Some-clause-first
 returns-in-Some-clause-first c =
     let few = c.vehicles-few.ensures in
-    (changed_are_few c.args.model.now c.args.routes.now.lists (subst (λ n. n ≤ 100) few.value few.few) c.args.mv c.requires.mv c.in-Some.touched (subst (AreFound c.args.model.now c.args.routes.now.lists c.args.mv) c.in-Some.is c.found.ensures)).0
+    (changed_are_few c.args.model.now c.args.routes.now.lists (subst (λ n. n ≤ 100) few.value few.few) c.args.mv c.requires.mv
+    c.in-Some.touched (subst (AreFound c.args.model.now c.args.routes.now.lists c.args.mv) c.in-Some.is c.found.ensures)).0
 
 pub returns-in-Some-clause-second : goal.returns-in-Some-clause-second
 returns-in-Some-clause-second c =
     let few = c.vehicles-few.ensures in
-    (changed_are_few c.args.model.now c.args.routes.now.lists (subst (λ n. n ≤ 100) few.value few.few) c.args.mv c.requires.mv c.in-Some.touched (subst (AreFound c.args.model.now c.args.routes.now.lists c.args.mv) c.in-Some.is c.found.ensures)).1
+    (changed_are_few c.args.model.now c.args.routes.now.lists (subst (λ n. n ≤ 100) few.value few.few) c.args.mv c.requires.mv
+    c.in-Some.touched (subst (AreFound c.args.model.now c.args.routes.now.lists c.args.mv) c.in-Some.is c.found.ensures)).1
 
 pub returns-in-Some-clause-others : goal.returns-in-Some-clause-others
 returns-in-Some-clause-others c =

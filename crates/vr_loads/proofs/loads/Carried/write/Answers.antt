@@ -11,7 +11,8 @@ pub write_sums-requires-clause-evaluator : goal.write_sums-requires-clause-evalu
 write_sums-requires-clause-evaluator c =
     let number : c.get-evaluator.result.now ≡ evaluator_number (dimension_at c.args.model.now c.args.d) c.args.v =
     sym (c.get-evaluator.ensures.value 0) ∙ ap (λ x. slice_index_or x.vehicle_evaluators c.args.v 0) (sym (c.get-dimension.ensures.value no_dimension)) in
-    subst (λ e. e < length (dimension_at c.args.model.now c.args.d).evaluators) (sym number) (number_low c.args.model.now c.args.d c.requires.load c.args.v c.requires.vehicle)
+    subst (λ e. e < length (dimension_at c.args.model.now c.args.d).evaluators) (sym number)
+    (number_low c.args.model.now c.args.d c.requires.load c.args.v c.requires.vehicle)
 
 pub overflow_sub-self : goal.overflow_sub-self
 overflow_sub-self c =

@@ -23,7 +23,8 @@ returns-then-other-evaluator c =
     let f = value_of m d c.args.evaluator in
     let less = small m d c.requires.load c.args.evaluator c.requires.evaluator in
     let sums = subst (λ e. AreTaken (value_of m d e) (route lists p.vehicle) other.sums) c.if-other-evaluator.true kept.sums_are in
-    chain-along f less lists p.vehicle p.from p.to p.reversed w.2 c.args.piece p.is (chain-kept f less lists p.vehicle p.from p.to p.reversed w.2 other.sums sums w.1)
+    chain-along f less lists p.vehicle p.from p.to p.reversed w.2 c.args.piece p.is
+    (chain-kept f less lists p.vehicle p.from p.to p.reversed w.2 other.sums sums w.1)
     c.between.result (c.between.ensures.value (at_target f) 0 (route lists p.vehicle) sums ∙ taken-total f _ (slice_range (route lists p.vehicle) p.from p.to))
 
 pub sum_of-requires-clause-nodes : goal.sum_of-requires-clause-nodes

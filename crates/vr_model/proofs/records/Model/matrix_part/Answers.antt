@@ -10,7 +10,8 @@ use Rattle.vr_model.proofs.tables.Bounds.{place_low}
 use Rattle.vr_model.proofs.records.Model.matrix_part.Goals as goal
 
 -- an entry of a matrix is in range
-entry_in_range : (n : ℕ) (matrix : Matrix) → IsMatrix n matrix → (i j : ℕ) → i < n → j < n → IsIn least_value greatest_cost (number_at matrix.entries (i * n + j))
+entry_in_range : (n : ℕ) (matrix : Matrix) → IsMatrix n matrix → (i j : ℕ) → i < n
+    → j < n → IsIn least_value greatest_cost (number_at matrix.entries (i * n + j))
 entry_in_range n matrix is i j low next = is.entries_in_range (i * n + j) (pos 0) (subst (λ k. i * n + j < k) (sym is.square) (place_low n i j low next))
 
 pub returns-in-Some-clause-in_range : goal.returns-in-Some-clause-in_range

@@ -5,7 +5,8 @@ use Rattle.vr_model.specs.tables.WellFormed.{IsEvaluator, IsIn}
 use Rattle.vr_model.proofs.tables.Bounds.{least_transit, greatest_transit, of_evaluator, transit_in_range}
 use Rattle.vr_model.proofs.records.Model.transit_by.Goals as goal
 
-value_is : (c : goal.After-transit) (d v : ℕ) → c.args.evaluator.now ≡ evaluator_of (dimension_at c.args.self.now d) v → c.transit.result ≡ transit c.args.self.now d v c.args.i c.args.j
+value_is : (c : goal.After-transit) (d v : ℕ) → c.args.evaluator.now ≡ evaluator_of (dimension_at c.args.self.now d) v
+    → c.transit.result ≡ transit c.args.self.now d v c.args.i c.args.j
 value_is c d v is = c.transit.ensures
     ∙ ap (λ evaluator. evaluated c.args.self.now evaluator c.args.i c.args.j) is
 
@@ -20,7 +21,8 @@ in_range c =
 pub transit-requires-clause-evaluator : goal.transit-requires-clause-evaluator
 transit-requires-clause-evaluator c =
     let h = c.requires.evaluator.2 in
-    subst (IsEvaluator c.args.self.now) (sym h.is) (of_evaluator c.args.self.now c.requires.well_formed c.requires.evaluator.0 c.requires.evaluator.1 h.dimension h.vehicle)
+    subst (IsEvaluator c.args.self.now) (sym h.is)
+    (of_evaluator c.args.self.now c.requires.well_formed c.requires.evaluator.0 c.requires.evaluator.1 h.dimension h.vehicle)
 
 pub returns-clause-value : goal.returns-clause-value
 returns-clause-value c d v is = let r = in_range c in omega (arith, ints, r.at_least, r.at_most) ∙ value_is c d v is

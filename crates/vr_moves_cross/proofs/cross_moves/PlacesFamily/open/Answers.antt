@@ -13,4 +13,6 @@ returns c =
     let s = c.args.self.now in
     let lists : List (List ℕ) = s.routes.now.lists in
     let at : ℕ → List Move = λ w. map (Cross s.v c.args.k w) (filter (has_some_front c.args.k) (gaps (route lists w))) in
-    c.new.ensures ∙ (joined_all at (s.v + 1) s.vehicles ∙ ap (λ v. each (from_to v s.vehicles) at) (add-one s.v) ∙ ap (λ n. each (from_to (suc s.v) n) at) c.args.self.now.many)
+    c.new.ensures
+    ∙ (joined_all at (s.v + 1) s.vehicles ∙ ap (λ v. each (from_to v s.vehicles) at) (add-one s.v)
+    ∙ ap (λ n. each (from_to (suc s.v) n) at) c.args.self.now.many)

@@ -11,5 +11,6 @@ use Rattle.vr_moves_cross.proofs.cross_moves.VehiclesFamily.open.Goals as goal
 pub returns : goal.returns
 returns c =
     let lists : List (List ℕ) = c.args.self.now.routes.now.lists in
-    let at : ℕ → List Move = λ a. each (from_to (suc c.args.k) (length lists)) (λ w. map (Cross c.args.k a w) (filter (has_some_front a) (gaps (route lists w)))) in
+    let at : ℕ → List Move = λ a. each (from_to (suc c.args.k) (length lists))
+    (λ w. map (Cross c.args.k a w) (filter (has_some_front a) (gaps (route lists w)))) in
     c.new.ensures ∙ (joined_all_below at (c.len.result + 1) ∙ ap (λ n. each (below n) at) (add-one c.len.result ∙ ap suc c.len.ensures.value))

@@ -7,4 +7,5 @@ use Rattle.vr_moves_pair.proofs.pair_active_moves.PickupsFamily.open.Goals as go
 pub returns : goal.returns
 returns c =
     let s = c.args.self.now in
-    c.new.ensures.rest ∙ (run_all (PairActive s.p s.w c.args.k) c.args.k (s.n + 1) ∙ ap (λ e. map (PairActive s.p s.w c.args.k) (from_to c.args.k e)) (add-one s.n))
+    c.new.ensures.rest
+    ∙ (run_all (PairActive s.p s.w c.args.k) c.args.k (s.n + 1) ∙ ap (λ e. map (PairActive s.p s.w c.args.k) (from_to c.args.k e)) (add-one s.n))

@@ -16,6 +16,8 @@ returns-in-Some c =
     let lists : List (List ℕ) = m.routes.now.lists in
     let pair : Pair = pair_at m.model.now c.args.k in
     let at : ℕ → List Move = λ w. each (gaps (without_pair pair (route lists w))) (λ s.
-    map (RelocatePair c.args.k w s) (filter (changes_the_list pair (route lists w) (without_pair pair (route lists w)) s) (from_to s (suc (length (without_pair pair (route lists w))))))) in
+    map (RelocatePair c.args.k w s)
+    (filter (changes_the_list pair (route lists w) (without_pair pair (route lists w)) s)
+    (from_to s (suc (length (without_pair pair (route lists w))))))) in
     c.new.ensures ∙ (joined_all_below at m.vehicles ∙ ap (λ n. each (below n) at) c.args.self.now.many
     ∙ ap (λ t. cond t (each (vehicles lists) at) []) (sym c.in-Some.ensures.answer))

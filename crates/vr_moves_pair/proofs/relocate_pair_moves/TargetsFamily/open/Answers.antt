@@ -27,4 +27,5 @@ returns c =
     ∙ ap (λ e. each (below (suc e)) (at elsewhere e)) (c.rest_len-n.ensures.rest pair c.args.self.now.places)
     ∙ each_same (at elsewhere (length rest)) (at changes (length rest)) (suc (length rest)) (λ s _.
     ap (map (RelocatePair m.p w s)) (filter_same (elsewhere s) (changes s) s (suc (length rest)) (λ t from to.
-    elsewhere_tells lists pair c.know_once.ensures m.at.vehicle m.at.pickup m.at.delivery c.args.self.now.places c.args.self.now.order w s t c.requires.below from (omega (arith, to))))))
+    elsewhere_tells lists pair c.know_once.ensures m.at.vehicle m.at.pickup m.at.delivery
+    c.args.self.now.places c.args.self.now.order w s t c.requires.below from (omega (arith, to))))))

@@ -9,5 +9,6 @@ use Rattle.vr_moves_route.proofs.or_opt_moves.ShiftsOfList.open.Goals as goal
 
 pub returns : goal.returns
 returns c =
-    let at : ℕ → List Move = λ a. each (filter (λ k. nat_le (a + k) c.args.n) (from_to 1 4)) (λ k. map (OrOpt c.args.v a k) (filter (is_other a) (below (suc (c.args.n - k))))) in
+    let at : ℕ → List Move = λ a. each (filter (λ k. nat_le (a + k) c.args.n) (from_to 1 4))
+    (λ k. map (OrOpt c.args.v a k) (filter (is_other a) (below (suc (c.args.n - k))))) in
     c.new.ensures ∙ joined_all_below at c.args.n

@@ -55,7 +55,9 @@ returns-in-None-clause-stands c =
       rows_are = λ none. record {
         known_of_each = c.put_part-in-None.ensures.long ∙ (c.put_part.ensures.long ∙ rows.known_of_each);
         known_are = subst (λ l. AreKnown m d l c.put_part-in-None.new.known.items) (both_parts lists parts c.put_part.ensures.some c.put_part.ensures.few)
-            (c.put_part-in-None.ensures.known m d lists (with_part lists parts 0 lists) (as_many_with_part lists parts 0 lists ∙ (n ∙ sym c.put_part.ensures.long)) (c.put_part.ensures.known m d lists lists n rows.known_are ready.first_are) ready.second_are);
+            (c.put_part-in-None.ensures.known m d lists (with_part lists parts 0 lists)
+            (as_many_with_part lists parts 0 lists ∙ (n ∙ sym c.put_part.ensures.long))
+            (c.put_part.ensures.known m d lists lists n rows.known_are ready.first_are) ready.second_are);
       };
       rule = c.requires.ready.rule;
     }

@@ -13,7 +13,8 @@ returns-then-seat-self c =
     let none = not_between c.self.invariant c.args.node c.mark_of-place.result c.mark_of-place.ensures (sym c.is_at.ensures ∙ c.if-is_at.false) in
     let other = c.if-seat-self.true in
     c.len-then-seat-self.ensures ∙ (ap length (sym c.self.view_is)
-    ∙ (place_elsewhere c.self.invariant c.args.node c.in-Some.seat.vehicle c.in-Some.seat.place none c.in-Some.ensures (λ e. absurd (omega (arith, other, e))) ∙ ap (λ l. place_of l c.args.node) c.self.view_is))
+    ∙ (place_elsewhere c.self.invariant c.args.node c.in-Some.seat.vehicle c.in-Some.seat.place none
+    c.in-Some.ensures (λ e. absurd (omega (arith, other, e))) ∙ ap (λ l. place_of l c.args.node) c.self.view_is))
 
 pub returns-then-seat-self-2 : goal.returns-then-seat-self-2
 returns-then-seat-self-2 c =
@@ -25,12 +26,15 @@ pub returns-then-seat-self-3 : goal.returns-then-seat-self-3
 returns-then-seat-self-3 c =
     let none = not_between c.self.invariant c.args.node c.mark_of-place.result c.mark_of-place.ensures (sym c.is_at.ensures ∙ c.if-is_at.false) in
     c.len-then-seat-self-3.ensures ∙ (ap length (sym c.self.view_is)
-    ∙ (place_elsewhere c.self.invariant c.args.node c.in-Some.seat.vehicle c.in-Some.seat.place none c.in-Some.ensures (λ _. (c.if-seat-self-2.false, c.if-seat-self-3.true)) ∙ ap (λ l. place_of l c.args.node) c.self.view_is))
+    ∙ (place_elsewhere c.self.invariant c.args.node c.in-Some.seat.vehicle c.in-Some.seat.place none c.in-Some.ensures
+    (λ _. (c.if-seat-self-2.false, c.if-seat-self-3.true)) ∙ ap (λ l. place_of l c.args.node) c.self.view_is))
 
 pub returns-in-None : goal.returns-in-None
 returns-in-None c =
     let none = not_between c.self.invariant c.args.node c.mark_of-place.result c.mark_of-place.ensures (sym c.is_at.ensures ∙ c.if-is_at.false) in
-    c.len.ensures ∙ (ap length (sym c.self.view_is) ∙ (place_inactive c.self.invariant c.args.node none c.in-None.ensures ∙ ap (λ l. place_of l c.args.node) c.self.view_is))
+    c.len.ensures
+    ∙ (ap length (sym c.self.view_is)
+    ∙ (place_inactive c.self.invariant c.args.node none c.in-None.ensures ∙ ap (λ l. place_of l c.args.node) c.self.view_is))
 
 pub returns-else-seat-self-3 : goal.returns-else-seat-self-3
 returns-else-seat-self-3 c =

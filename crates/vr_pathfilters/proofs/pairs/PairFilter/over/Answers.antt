@@ -20,7 +20,8 @@ returns-clause-stands c =
     let listed = c.count_all.new.turns.listed in
     subst (λ m. StandsBy (keeps_pairs m) (KnowsPairs m listed) c.args.routes.now) (sym c.in_ok-share.ensures) (record {
       known = record {
-        knows_tours = record { well_formed = c.args.lookups.now.closed.well_formed; tours_are = kept_tours c.requires c.know_once.ensures c.know_entries.ensures };
+        knows_tours =
+            record { well_formed = c.args.lookups.now.closed.well_formed; tours_are = kept_tours c.requires c.know_once.ensures c.know_entries.ensures };
         counted = subst (λ m. AreAllCounted m c.args.routes.now.lists listed) c.nodes.ensures c.count_all.ensures;
       };
       rule_holds = c.requires.rule_holds;

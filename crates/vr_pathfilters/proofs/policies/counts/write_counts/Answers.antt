@@ -22,5 +22,6 @@ loop-k-preserved c =
       so_far = is;
       long = length-set table (slice_index list k) c.with_node-counts.result ∙ long;
       counted = counted_more model list table k low c.requires.distinct within c.with_node-counts.result is c.loop-k.invariant.counted;
-      others = λ node none. others_stay model list table k low c.requires.distinct within c.with_node-counts.result node none ∙ c.loop-k.invariant.others node none;
+      others = λ node none. others_stay model list table k low c.requires.distinct within c.with_node-counts.result node none
+          ∙ c.loop-k.invariant.others node none;
     }

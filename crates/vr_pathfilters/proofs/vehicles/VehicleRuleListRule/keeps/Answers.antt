@@ -16,7 +16,8 @@ use Rattle.vr_pathfilters.proofs.VehicleLemmas.{all-joined, all-spliced}
 use Rattle.vr_pathfilters.proofs.vehicles.VehicleRuleListRule.keeps.Goals as goal
 
 -- without rows each visit allows each vehicle
-allowing_all : (v : ℕ) (rows : List Allowed) (list : List ℕ) → length rows ≡ 0 → true ≡ list_all (λ node. row_allows_vehicle (find (λ row. row.node == node) rows) v) list
+allowing_all : (v : ℕ) (rows : List Allowed) (list : List ℕ) → length rows ≡ 0
+    → true ≡ list_all (λ node. row_allows_vehicle (find (λ row. row.node == node) rows) v) list
 allowing_all v [] list e = sym (list_all-true (λ node. row_allows_vehicle None v) (λ node. refl) list)
 allowing_all v (row ∷ rows) list e = absurd (omega (arith, e))
 
@@ -36,7 +37,8 @@ pieces_allow-requires c =
     let v = c.splice-splice.result.vehicle in
     let low : v < length lists = part_vehicle c.requires.made.makes.parts_are c.args.k c.requires.part c.splice-splice.ensures.vehicle in
     record {
-      rule = subst (λ m. IsTrue (is_allowed_list m v (route lists v))) (sym c.nodes.ensures) (rule_at (is_allowed_list c.args.self.now.lookups.closed.model.now) lists c.requires.before v low);
+      rule = subst (λ m. IsTrue (is_allowed_list m v (route lists v))) (sym c.nodes.ensures)
+          (rule_at (is_allowed_list c.args.self.now.lookups.closed.model.now) lists c.requires.before v low);
       within = (c.splice-splice.ensures.ends c.args.routes.now.lists c.requires.made.makes.parts_are).within;
     }
 
@@ -52,5 +54,6 @@ returns-clause-answer c =
     ∙ (ap (λ m. are_allowed_pieces m lists ends.result.vehicle ends.result.middle.now) c.nodes.ensures
     ∙ (ap (λ w. are_allowed_pieces model lists w ends.result.middle.now) ends.ensures.vehicle
     ∙ (sym (all-joined (allows_vehicle model v) lists ends.result.middle.now)
-    ∙ (sym (all-spliced (allows_vehicle model v) (route lists v) (joined lists ends.result.middle.now) ends.result.front ends.result.behind (rule_at (is_allowed_list model) lists c.requires.before v low))
+    ∙ (sym (all-spliced (allows_vehicle model v) (route lists v) (joined lists ends.result.middle.now)
+    ends.result.front ends.result.behind (rule_at (is_allowed_list model) lists c.requires.before v low))
     ∙ sym (ap (list_all (allows_vehicle model v)) (ends.ensures.ends lists c.requires.made.makes.parts_are).joins)))))

@@ -21,7 +21,8 @@ returns-clause-holds c =
       least = omega (arith, ints, same, bounds.least);
     } in
     record {
-      committed = subst (λ m. AreCommitted m c.args.routes.now c.in_ok-scratch.scratch (to_z w64 (of_z w64 c.in_ok-total.total))) (sym (c.in_ok-total.ensures.model ∙ c.in_ok-rules.ensures)) kept;
+      committed = subst (λ m. AreCommitted m c.args.routes.now c.in_ok-scratch.scratch (to_z w64 (of_z w64 c.in_ok-total.total)))
+          (sym (c.in_ok-total.ensures.model ∙ c.in_ok-rules.ensures)) kept;
       of_model = c.requires.of_model;
       valid = c.requires.valid;
     }

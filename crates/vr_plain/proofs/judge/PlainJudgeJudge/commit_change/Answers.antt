@@ -18,7 +18,8 @@ pub rebuild-requires-clause-same_visits : goal.rebuild-requires-clause-same_visi
 rebuild-requires-clause-same_visits c = c.requires.holds.committed.scratch_of_model ∙ sym c.requires.holds.of_model
 
 pub rebuild-requires-clause-as_many : goal.rebuild-requires-clause-as_many
-rebuild-requires-clause-as_many c = c.requires.holds.committed.scratch_for_all ∙ sym (valid_count c.args.self.now.rules c.args.routes.now.lists c.requires.holds.valid)
+rebuild-requires-clause-as_many c = c.requires.holds.committed.scratch_for_all
+    ∙ sym (valid_count c.args.self.now.rules c.args.routes.now.lists c.requires.holds.valid)
 
 pub total-requires : goal.total-requires
 total-requires c = record { valid = ap (is_valid c.args.self.now.rules) (rebuilt (goal.at.total-requires c).After-rebuild) ∙ c.requires.valid }
@@ -26,8 +27,10 @@ total-requires c = record { valid = ap (is_valid c.args.self.now.rules) (rebuilt
 pub returns-in_err-total-clause-committed_stay : goal.returns-in_err-total-clause-committed_stay
 returns-in_err-total-clause-committed_stay c =
     let after = rebuilt (goal.at.returns-in_err-total-clause-committed_stay c).After-rebuild in
-    on_err c.from_residual.result (stays_committed c.requires.holds.committed c.in_err-total.ensures.model (ap (λ r. r.visits) c.rebuild.ensures ∙ c.requires.holds.of_model)
-    (count_after c.args.self.now.rules c.args.routes.now.lists c.args._mv c.requires.well_formed c.requires.holds.valid c.requires.mv c.rebuild.new.scratch.lists after))
+    on_err c.from_residual.result
+    (stays_committed c.requires.holds.committed c.in_err-total.ensures.model (ap (λ r. r.visits) c.rebuild.ensures ∙ c.requires.holds.of_model)
+    (count_after c.args.self.now.rules c.args.routes.now.lists c.args._mv c.requires.well_formed
+    c.requires.holds.valid c.requires.mv c.rebuild.new.scratch.lists after))
 
 pub returns-clause-committed : goal.returns-clause-committed
 returns-clause-committed c =
@@ -39,7 +42,8 @@ returns-clause-committed c =
     let kept : AreCommitted model c.commit.new.self c.rebuild.new.scratch (to_z w64 (of_z w64 c.in_ok-total.total)) = record {
       of_model = c.commit.ensures.visits ∙ c.requires.holds.committed.of_model;
       scratch_of_model = ap (λ r. r.visits) c.rebuild.ensures ∙ c.requires.holds.of_model;
-      scratch_for_all = count_after model c.args.routes.now.lists c.args._mv c.requires.well_formed c.requires.holds.valid c.requires.mv c.rebuild.new.scratch.lists after;
+      scratch_for_all =
+          count_after model c.args.routes.now.lists c.args._mv c.requires.well_formed c.requires.holds.valid c.requires.mv c.rebuild.new.scratch.lists after;
       costs = same ∙ (value ∙ ap (cost model) (sym now));
       least = omega (arith, ints, same, c.in_ok-total.ensures.least);
     } in

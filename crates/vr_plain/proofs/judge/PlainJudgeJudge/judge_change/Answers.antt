@@ -14,17 +14,20 @@ of_model : (g : Over) (c : After-rebuild g) → c.rebuild.new.scratch.visits ≡
 of_model g c = ap (λ r. r.visits) c.rebuild.ensures ∙ c.requires.holds.of_model
 
 for_all : (g : Over) (c : After-rebuild g) → length c.rebuild.new.scratch.lists ≡ length c.args.self.now.rules.vehicles
-for_all g c = count_after c.args.self.now.rules c.args.routes.now.lists c.args._mv c.requires.well_formed c.requires.holds.valid c.requires.mv c.rebuild.new.scratch.lists (rebuilt g c)
+for_all g c = count_after c.args.self.now.rules c.args.routes.now.lists c.args._mv
+    c.requires.well_formed c.requires.holds.valid c.requires.mv c.rebuild.new.scratch.lists (rebuilt g c)
 
 pub rebuild-requires-clause-same_visits : goal.rebuild-requires-clause-same_visits
 rebuild-requires-clause-same_visits g c = c.requires.holds.committed.scratch_of_model ∙ sym c.requires.holds.of_model
 
 pub rebuild-requires-clause-as_many : goal.rebuild-requires-clause-as_many
-rebuild-requires-clause-as_many g c = c.requires.holds.committed.scratch_for_all ∙ sym (valid_count c.args.self.now.rules c.args.routes.now.lists c.requires.holds.valid)
+rebuild-requires-clause-as_many g c = c.requires.holds.committed.scratch_for_all
+    ∙ sym (valid_count c.args.self.now.rules c.args.routes.now.lists c.requires.holds.valid)
 
 pub valid-requires : goal.valid-requires
 valid-requires g c = record {
-  lists = are_lists_after c.args.self.now.rules c.args.routes.now.lists c.args._mv c.requires.well_formed c.requires.holds.valid c.requires.mv c.rebuild.new.scratch.lists
+  lists = are_lists_after c.args.self.now.rules c.args.routes.now.lists c.args._mv
+      c.requires.well_formed c.requires.holds.valid c.requires.mv c.rebuild.new.scratch.lists
       (rebuilt g (goal.at.valid-requires g c).After-rebuild);
 }
 

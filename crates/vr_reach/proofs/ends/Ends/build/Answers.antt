@@ -20,15 +20,21 @@ returns c =
         end_set_is = record { exact = c.in_ok-end_set.ensures.exact; cumuls = c.in_ok-end_set.ensures.cumuls; normal = c.in_ok-end_set.ensures.normal };
       };
       start_form = c.in_ok-start_levels.ensures.levels;
-      start_is = λ list used. start_is_reached (line m c.args.vehicle.d c.args.vehicle.v list) (sound_line lines_are_sound m c.args.vehicle.closed.well_formed c.args.vehicle.d c.args.vehicle.v c.args.vehicle.dimension c.args.vehicle.vehicle list used)
-          c.in_ok-start_set.start_set c.in_ok-start_levels.start_levels (record { exact = c.in_ok-start_set.ensures.exact; cumuls = c.in_ok-start_set.ensures.cumuls })
+      start_is = λ list used. start_is_reached (line m c.args.vehicle.d c.args.vehicle.v list)
+          (sound_line lines_are_sound m c.args.vehicle.closed.well_formed c.args.vehicle.d
+          c.args.vehicle.v c.args.vehicle.dimension c.args.vehicle.vehicle list used)
+          c.in_ok-start_set.start_set c.in_ok-start_levels.start_levels
+          (record { exact = c.in_ok-start_set.ensures.exact; cumuls = c.in_ok-start_set.ensures.cumuls })
           (subst (λ rows. AreStartLevels c.in_ok-start_set.start_set rows c.in_ok-start_levels.start_levels) same c.in_ok-start_levels.ensures.exact);
       end_form = c.in_ok-end_levels.ensures.levels;
       end_is = λ list used.
           let n = arcs_of_line m c.args.vehicle.d c.args.vehicle.v list in
           subst (λ k. AreReachingEnd (line m c.args.vehicle.d c.args.vehicle.v list) k c.in_ok-end_levels.end_levels) n
-          (end_is_reached (line m c.args.vehicle.d c.args.vehicle.v list) (sound_line lines_are_sound m c.args.vehicle.closed.well_formed c.args.vehicle.d c.args.vehicle.v c.args.vehicle.dimension c.args.vehicle.vehicle list used)
+          (end_is_reached (line m c.args.vehicle.d c.args.vehicle.v list)
+          (sound_line lines_are_sound m c.args.vehicle.closed.well_formed c.args.vehicle.d
+          c.args.vehicle.v c.args.vehicle.dimension c.args.vehicle.vehicle list used)
           c.in_ok-end_set.end_set c.in_ok-end_levels.end_levels
-          (subst (λ k. IsAllowedSet (line m c.args.vehicle.d c.args.vehicle.v list) k c.in_ok-end_set.end_set) (sym n) (end_allows m c.args.vehicle.d c.args.vehicle.v list c.in_ok-end_set.end_set c.in_ok-end_set.ensures.exact c.in_ok-end_set.ensures.cumuls))
+          (subst (λ k. IsAllowedSet (line m c.args.vehicle.d c.args.vehicle.v list) k c.in_ok-end_set.end_set) (sym n)
+          (end_allows m c.args.vehicle.d c.args.vehicle.v list c.in_ok-end_set.end_set c.in_ok-end_set.ensures.exact c.in_ok-end_set.ensures.cumuls))
           (subst (λ rows. AreEndLevels c.in_ok-end_set.end_set rows c.in_ok-end_levels.end_levels) same c.in_ok-end_levels.ensures.exact));
     }

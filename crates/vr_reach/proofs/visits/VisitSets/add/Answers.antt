@@ -18,7 +18,10 @@ returns c =
       tables = c.in_ok-k.ensures.tables;
       one_of_each = ap length c.in_ok-push.ensures.ok ∙ omega (arith, n, long);
       each = λ w low. subst (λ all. IsTableOf m d w capacities (get_or all w 0)) (sym c.in_ok-push.ensures.ok) (elim (cases_lt w v) [
-        | inl earlier ↦ subst (IsTableOf m d w capacities) (sym (get_or_append_left before (k ∷ []) 0 w (omega (arith, earlier, long)))) (c.in_ok-k.ensures.kept w (get_or before w 0) (c.requires.each w earlier))
-        | inr at ↦ (let e : v ≡ w = omega (arith, low, at) in subst (IsTableOf m d w capacities) (sym (get_or_push before k 0 w (long ∙ e))) (subst (λ u. IsTableOf m d u capacities k) e c.in_ok-k.ensures.table))
+        | inl earlier ↦ subst (IsTableOf m d w capacities) (sym (get_or_append_left before (k ∷ []) 0 w (omega (arith, earlier, long))))
+            (c.in_ok-k.ensures.kept w (get_or before w 0) (c.requires.each w earlier))
+        | inr at ↦ (let e : v ≡ w = omega (arith, low, at) in
+            subst (IsTableOf m d w capacities) (sym (get_or_push before k 0 w (long ∙ e)))
+            (subst (λ u. IsTableOf m d u capacities k) e c.in_ok-k.ensures.table))
       ]);
     }

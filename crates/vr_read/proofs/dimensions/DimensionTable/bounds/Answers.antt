@@ -5,4 +5,6 @@ use Rattle.vr_read.proofs.dimensions.DimensionTable.bounds.Goals as goal
 
 pub returns : goal.returns
 unfolding bounds
-returns c = then _ c.in_ok-slack_max.ensures (then _ c.in_ok-capacities.ensures (then _ c.in_ok-fix_start.ensures (then _ (otherwise _ _ _ _ c.in_ok-zeros.ensures c.in_ok-visit.ensures) (gives (search rules)))))
+returns c = then _ c.in_ok-slack_max.ensures
+    (then _ c.in_ok-capacities.ensures
+    (then _ c.in_ok-fix_start.ensures (then _ (otherwise _ _ _ _ c.in_ok-zeros.ensures c.in_ok-visit.ensures) (gives (search rules)))))

@@ -5,7 +5,8 @@ use Rattle.vr_read.proofs.dimensions.DimensionTable.rows.Goals as goal
 
 pub returns-in_err-breaks : goal.returns-in_err-breaks
 unfolding rows
-returns-in_err-breaks c = then _ c.in_ok-nodes.ensures (then _ c.in_ok-starts.ensures (then _ c.in_ok-ends.ensures (stops _ _ c.in_err-breaks.ensures c.from_residual-in_err-breaks.ensures.1)))
+returns-in_err-breaks c = then _ c.in_ok-nodes.ensures
+    (then _ c.in_ok-starts.ensures (then _ c.in_ok-ends.ensures (stops _ _ c.in_err-breaks.ensures c.from_residual-in_err-breaks.ensures.1)))
 
 pub returns : goal.returns
 unfolding rows

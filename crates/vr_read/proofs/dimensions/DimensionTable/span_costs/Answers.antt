@@ -9,7 +9,8 @@ returns-in_err-by_vehicle c = stops _ _ (otherwise _ _ _ _ c.in_ok-zeros.ensures
 
 pub returns-in_err-global : goal.returns-in_err-global
 unfolding span_costs
-returns-in_err-global c = then _ (otherwise _ _ _ _ c.in_ok-zeros.ensures c.in_ok-by_vehicle.ensures) (stops _ _ c.in_err-global.ensures c.from_residual-in_err-global.ensures.1)
+returns-in_err-global c =
+    then _ (otherwise _ _ _ _ c.in_ok-zeros.ensures c.in_ok-by_vehicle.ensures) (stops _ _ c.in_err-global.ensures c.from_residual-in_err-global.ensures.1)
 
 pub returns : goal.returns
 unfolding span_costs

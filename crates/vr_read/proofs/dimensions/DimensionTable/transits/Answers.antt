@@ -11,11 +11,14 @@ returns-in_err-evaluators c = stops _ _ c.in_err-evaluators.ensures c.from_resid
 
 pub returns-in_err-vehicle_evaluators : goal.returns-in_err-vehicle_evaluators
 unfolding transits
-returns-in_err-vehicle_evaluators c = then _ c.in_ok-evaluators.ensures (stops _ _ (otherwise _ _ _ _ c.in_ok-zeros.ensures (rw c.len-count.ensures at c.in_err-vehicle_evaluators.ensures)) c.from_residual-in_err-vehicle_evaluators.ensures.1)
+returns-in_err-vehicle_evaluators c = then _ c.in_ok-evaluators.ensures
+    (stops _ _ (otherwise _ _ _ _ c.in_ok-zeros.ensures (rw c.len-count.ensures at c.in_err-vehicle_evaluators.ensures))
+    c.from_residual-in_err-vehicle_evaluators.ensures.1)
 
 pub returns : goal.returns
 unfolding transits
-returns c = then _ c.in_ok-evaluators.ensures (then _ (otherwise _ _ _ _ c.in_ok-zeros.ensures (rw c.len-count.ensures at c.in_ok-vehicle_evaluators.ensures)) (gives (search rules)))
+returns c = then _ c.in_ok-evaluators.ensures
+    (then _ (otherwise _ _ _ _ c.in_ok-zeros.ensures (rw c.len-count.ensures at c.in_ok-vehicle_evaluators.ensures)) (gives (search rules)))
 
 pub overflow_cast-count : goal.overflow_cast-count
 overflow_cast-count c = let within = field_length _ 1 8 _ _ _ _ c.in_ok-evaluators.ensures in omega (arith, within.at_most, c.len-count.ensures)

@@ -9,7 +9,8 @@ returns-in_err-chosen c = stops _ _ c.in_err-chosen.ensures c.from_residual.ensu
 
 pub returns-in_err-refuse_if : goal.returns-in_err-refuse_if
 unfolding neighbourhood
-returns-in_err-refuse_if c = then _ c.in_ok-chosen.ensures (stops _ _ (asked _ c.has_neighbourhood.ensures refl c.in_err-refuse_if.ensures) c.from_residual-in_err-refuse_if.ensures.1)
+returns-in_err-refuse_if c =
+    then _ c.in_ok-chosen.ensures (stops _ _ (asked _ c.has_neighbourhood.ensures refl c.in_err-refuse_if.ensures) c.from_residual-in_err-refuse_if.ensures.1)
 
 pub returns : goal.returns
 unfolding neighbourhood

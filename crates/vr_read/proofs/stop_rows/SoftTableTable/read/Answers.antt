@@ -9,7 +9,8 @@ returns-in_err-coefficient c = then _ c.in_ok-bound.ensures (stops _ _ c.in_err-
 
 pub returns-in_err-known : goal.returns-in_err-known
 unfolding soft
-returns-in_err-known c = then _ c.in_ok-bound.ensures (then _ c.in_ok-coefficient.ensures (stops _ _ c.in_err-known.ensures c.from_residual-in_err-known.ensures.1))
+returns-in_err-known c =
+    then _ c.in_ok-bound.ensures (then _ c.in_ok-coefficient.ensures (stops _ _ c.in_err-known.ensures c.from_residual-in_err-known.ensures.1))
 
 pub returns : goal.returns
 unfolding soft

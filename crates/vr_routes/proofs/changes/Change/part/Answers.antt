@@ -13,4 +13,5 @@ pub returns-else-k-eq0 : goal.returns-else-k-eq0
 returns-else-k-eq0 c =
     let f : ListAfter = c.self.inside.first in
     let s : ListAfter = c.self.inside.second in
-    sym (sym (ap (λ parts. part_at parts c.args.k) c.self.view_is) ∙ second_part f s c.self.inside.has_second c.args.k (subst (λ parts. c.args.k < length parts) (sym c.self.view_is) c.requires.part) c.if-k-eq0.false)
+    sym (sym (ap (λ parts. part_at parts c.args.k) c.self.view_is)
+    ∙ second_part f s c.self.inside.has_second c.args.k (subst (λ parts. c.args.k < length parts) (sym c.self.view_is) c.requires.part) c.if-k-eq0.false)

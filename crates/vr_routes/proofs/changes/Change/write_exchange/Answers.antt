@@ -11,7 +11,11 @@ use Rattle.vr_routes.proofs.changes.Change.write_exchange.Goals as goal
 pub swap_two-requires : goal.swap_two-requires
 swap_two-requires c =
     let same : c.args.v ≡ c.args.w = c.if-v-w.true in
-    record { vehicle = c.requires.vehicle; order = c.requires.behind same; place = subst (λ u. c.args.b < length (route c.args.routes.now.lists u)) (sym same) c.requires.other_place }
+    record {
+      vehicle = c.requires.vehicle;
+      order = c.requires.behind same;
+      place = subst (λ u. c.args.b < length (route c.args.routes.now.lists u)) (sym same) c.requires.other_place;
+    }
 
 pub put-requires : goal.put-requires
 put-requires c = record { vehicle = c.requires.vehicle; within = omega (arith, c.requires.place) }
@@ -49,5 +53,7 @@ returns c model is_one =
     (ap (λ z. slice_set (slice_set lists v (slice_set (route lists v) a z)) w (slice_set (route lists w) b c.node_at-2.result)) c.node_at.ensures
     ∙ ap (λ z. slice_set (slice_set lists v (slice_set (route lists v) a y)) w (slice_set (route lists w) b z)) c.node_at-2.ensures
     ∙ exchanged_between lists v w b x (slice_set (route lists v) a y) c.if-v-w.false)
-    (λ are. replaced_differs (route lists v) a c.node_at.result test.place (λ e. apart_between model lists are v w a b c.if-v-w.false test.place test.other_place (sym e ∙ c.node_at.ensures)))
-    (λ are. replaced_differs (route lists w) b c.node_at-2.result test.other_place (λ e. apart_between model lists are v w a b c.if-v-w.false test.place test.other_place (sym c.node_at-2.ensures ∙ e)))
+    (λ are. replaced_differs (route lists v) a c.node_at.result test.place
+    (λ e. apart_between model lists are v w a b c.if-v-w.false test.place test.other_place (sym e ∙ c.node_at.ensures)))
+    (λ are. replaced_differs (route lists w) b c.node_at-2.result test.other_place
+    (λ e. apart_between model lists are v w a b c.if-v-w.false test.place test.other_place (sym c.node_at-2.ensures ∙ e)))

@@ -10,7 +10,8 @@ use Rattle.vr_routes.proofs.changes.Change.write_pair_inactive.Goals as goal
 pub take_pair-requires : goal.take_pair-requires
 take_pair-requires c =
     let at = c.in-Some.at in
-    places_apart c.args.closed.model.now c.args.p c.args.routes.now.lists at.vehicle at.pickup at.delivery c.args.closed.well_formed c.in-Some.ensures.pair c.in-Some.ensures.places
+    places_apart c.args.closed.model.now c.args.p c.args.routes.now.lists at.vehicle at.pickup
+    at.delivery c.args.closed.well_formed c.in-Some.ensures.pair c.in-Some.ensures.places
 
 pub returns : goal.returns
 returns c =

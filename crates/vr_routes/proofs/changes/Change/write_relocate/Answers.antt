@@ -23,6 +23,7 @@ returns c model =
     test.vehicle test.other test.apart
     (subst (IsAfter lists c.take_out.new.self c.args.v) (removed_is (route lists c.args.v) c.args.a) c.take_out.ensures)
     (subst (IsAfter lists c.put.new.self c.args.w) (inserted_is (route lists c.args.w) c.args.t c.node_at.result) c.put.ensures)
-    (ap (λ node. with_route (with_route lists c.args.v (remove (route lists c.args.v) c.args.a)) c.args.w (insert (route lists c.args.w) c.args.t node)) c.node_at.ensures)
+    (ap (λ node. with_route (with_route lists c.args.v (remove (route lists c.args.v) c.args.a)) c.args.w (insert (route lists c.args.w) c.args.t node))
+    c.node_at.ensures)
     (λ are. removed_differs (route lists c.args.v) c.args.a test.place)
     (λ are. inserted_differs (route lists c.args.w) c.args.t c.node_at.result)

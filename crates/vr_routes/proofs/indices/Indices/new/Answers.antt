@@ -22,5 +22,6 @@ invariant_of-result c =
       few_visits = omega (arith, few, nodes, long);
       few_vehicles = omega (arith, starts, fleet);
       as_many_ends = ends ∙ sym starts;
-      each_visit_is_node = subst (λ l. All (λ node. node < c.in_ok-visits.visits.nodes) l) (sym list) (subst (λ n. All (λ node. node < n) (visits m)) (sym c.in_ok-visits.ensures.nodes) (visits_below m));
+      each_visit_is_node = subst (λ l. All (λ node. node < c.in_ok-visits.visits.nodes) l) (sym list)
+          (subst (λ n. All (λ node. node < n) (visits m)) (sym c.in_ok-visits.ensures.nodes) (visits_below m));
     }

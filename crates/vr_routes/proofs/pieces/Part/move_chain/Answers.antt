@@ -14,7 +14,8 @@ returns-then-t-a c =
     let a = c.args in
     let low = c.if-t-a.true in
     let lists : List (List ℕ) = a.routes.now.lists in
-    subst (IsAfter lists c.swap_neighbours.new.self a.v) (put_back (route lists a.v) a.a a.k a.t (omega (arith, low)) (omega (arith, c.requires.chain.within))) c.swap_neighbours.ensures
+    subst (IsAfter lists c.swap_neighbours.new.self a.v)
+    (put_back (route lists a.v) a.a a.k a.t (omega (arith, low)) (omega (arith, c.requires.chain.within))) c.swap_neighbours.ensures
 
 pub swap_neighbours-requires-2 : goal.swap_neighbours-requires-2
 swap_neighbours-requires-2 c =
@@ -26,4 +27,5 @@ returns c =
     let a = c.args in
     let past = c.if-t-a.false in
     let lists : List (List ℕ) = a.routes.now.lists in
-    subst (IsAfter lists c.swap_neighbours-2.new.self a.v) (put_on (route lists a.v) a.a a.k a.t (omega (arith, past)) c.requires.gap) c.swap_neighbours-2.ensures
+    subst (IsAfter lists c.swap_neighbours-2.new.self a.v)
+    (put_on (route lists a.v) a.a a.k a.t (omega (arith, past)) c.requires.gap) c.swap_neighbours-2.ensures

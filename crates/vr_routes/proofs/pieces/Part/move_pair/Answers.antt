@@ -6,12 +6,14 @@ use Rattle.vr_routes.proofs.pieces.Part.move_pair.Goals as goal
 
 pub add_rest-requires-3-clause-room : goal.add_rest-requires-3-clause-room
 add_rest-requires-3-clause-room c =
-    few_to_end c.args.at.pickup c.args.at.delivery c.args.s c.args.t c.least-front.result c.greatest-behind.result c.requires.two.order c.requires.places c.least-front.ensures c.greatest-behind.ensures
+    few_to_end c.args.at.pickup c.args.at.delivery c.args.s c.args.t c.least-front.result c.greatest-behind.result
+    c.requires.two.order c.requires.places c.least-front.ensures c.greatest-behind.ensures
     _ _ _ _ _ c.begin.ensures.room c.add_rest.ensures.room c.node.ensures.room c.add_rest-2.ensures.room c.node-2.ensures.room
 
 pub end-requires-clause-room : goal.end-requires-clause-room
 end-requires-clause-room c =
-    few_between c.args.at.pickup c.args.at.delivery c.args.s c.args.t c.least-front.result c.greatest-behind.result c.requires.two.order c.requires.places c.least-front.ensures c.greatest-behind.ensures
+    few_between c.args.at.pickup c.args.at.delivery c.args.s c.args.t c.least-front.result c.greatest-behind.result
+    c.requires.two.order c.requires.places c.least-front.ensures c.greatest-behind.ensures
     _ _ _ _ _ c.begin.ensures.room c.add_rest.ensures.room c.node.ensures.room c.add_rest-2.ensures.room c.node-2.ensures.room _ c.add_rest-3.ensures.room
 
 pub returns : goal.returns
@@ -34,4 +36,5 @@ returns c =
     let s5 = c.add_rest-3.ensures.after lists v front _ two (omega (arith, at_end, two.place, two.order, c.requires.gap)) s4 in
     let s6 = c.end.ensures lists v front _ two.vehicle n (omega (arith, at_front, at_end, two.order)) s5 in
     subst (IsAfter lists c.end.new.self v)
-    (pair_among (route lists v) at.pickup at.delivery s t front behind c.args.pair.pickup c.args.pair.delivery two.order two.place c.requires.places at_front at_end) s6
+    (pair_among (route lists v) at.pickup at.delivery s t front behind c.args.pair.pickup
+    c.args.pair.delivery two.order two.place c.requires.places at_front at_end) s6

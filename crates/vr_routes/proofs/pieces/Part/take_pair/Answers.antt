@@ -19,7 +19,9 @@ returns-then-at c =
     let on = c.args.on in
     let lists : List (List ℕ) = on.routes.now.lists in
     let at = on.at in
-    subst (IsAfter lists c.take_two.new.self at.vehicle) (sym (pickup_first (pair_at on.model.now on.p) lists c.know_once.ensures at.vehicle at.pickup at.delivery on.places c.if-at.true).list_without) c.take_two.ensures
+    subst (IsAfter lists c.take_two.new.self at.vehicle)
+    (sym (pickup_first (pair_at on.model.now on.p) lists c.know_once.ensures at.vehicle at.pickup at.delivery on.places c.if-at.true).list_without)
+    c.take_two.ensures
 
 pub returns : goal.returns
 returns c =
@@ -28,4 +30,5 @@ returns c =
     let at = on.at in
     let apart = c.requires in
     let behind = c.if-at.false in
-    subst (IsAfter lists c.take_two-2.new.self at.vehicle) (sym (delivery_first (pair_at on.model.now on.p) lists c.know_once.ensures at.vehicle at.pickup at.delivery on.places (omega (arith, apart, behind))).list_without) c.take_two-2.ensures
+    subst (IsAfter lists c.take_two-2.new.self at.vehicle) (sym (delivery_first (pair_at on.model.now on.p) lists c.know_once.ensures
+    at.vehicle at.pickup at.delivery on.places (omega (arith, apart, behind))).list_without) c.take_two-2.ensures

@@ -18,4 +18,5 @@ loop-piece-preserved c = record {
 }
 
 pub returns : goal.returns
-returns c lists within = c.loop-piece.invariant.nodes lists within ∙ ap (λ pieces. length (joined lists pieces)) (take_all c.loop-piece.piece-index c.args.pieces.now c.loop-piece-test.false)
+returns c lists within = c.loop-piece.invariant.nodes lists within
+    ∙ ap (λ pieces. length (joined lists pieces)) (take_all c.loop-piece.piece-index c.args.pieces.now c.loop-piece-test.false)

@@ -8,7 +8,8 @@ use Rattle.vr_routes.proofs.routes.Routes.assign.Goals as goal
 pub assign-requires : goal.assign-requires
 assign-requires c =
     let mine : List ℕ = route c.self.inside.visits.lists 0 in
-    let same : mine ≡ route c.other.inside.visits.lists 0 = ap (λ (t : Tours). t.visits) c.self.view_is ∙ c.requires.visits ∙ sym (ap (λ (t : Tours). t.visits) c.other.view_is) in
+    let same : mine ≡ route c.other.inside.visits.lists 0 = ap (λ (t : Tours). t.visits) c.self.view_is
+    ∙ c.requires.visits ∙ sym (ap (λ (t : Tours). t.visits) c.other.view_is) in
     record {
       many = ap (λ (t : Tours). length t.lists) c.self.view_is ∙ c.requires.many ∙ sym (ap (λ (t : Tours). length t.lists) c.other.view_is);
       nodes = λ node active. held_below mine c.self.inside.seating.nodes c.self.invariant.tours.each_visit_is_node node

@@ -18,7 +18,8 @@ rebuild-requires c =
     record {
       parts_are = made.makes.parts_are;
       once = once_after tours parts made once;
-      have = λ node active. held_below tours.visits c.self.inside.seating.nodes before.each_visit_is_node node (entry_after tours parts made once before.each_entry_is_visit node active);
+      have = λ node active. held_below tours.visits c.self.inside.seating.nodes before.each_visit_is_node
+          node (entry_after tours parts made once before.each_entry_is_visit node active);
     }
 
 pub invariant_of-self : goal.invariant_of-self
@@ -31,6 +32,7 @@ invariant_of-self c =
     let lists = c.rebuild.ensures.lists in
     record {
       tours = tours_after before after (sym c.rebuild.ensures.nodes) (ap length lists ∙ as_many_lists tours.lists parts)
-          (λ node active. entry_after tours parts made c.know_once.ensures before.each_entry_is_visit node (subst (λ l. IsTrue (is_active l node)) lists active));
+          (λ node active. entry_after tours parts made c.know_once.ensures
+          before.each_entry_is_visit node (subst (λ l. IsTrue (is_active l node)) lists active));
       inactive_ones = c.write_inactive.ensures ∙ ap (λ l. inactive_of l after.lists) c.list.ensures.value;
     }

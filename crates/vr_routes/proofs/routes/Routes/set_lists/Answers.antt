@@ -20,6 +20,7 @@ invariant_of-self c =
     let before = subst (λ (t : Tours). length t.lists ≡ length c.args.lists.now) (sym c.self.view_is) c.requires.many in
     record {
       tours = tours_after c.self.invariant.tours after (sym c.set_lists.ensures.nodes) (ap length lists ∙ sym before)
-          (λ node active. subst (λ (t : Tours). IsTrue (holds t.visits node)) (sym c.self.view_is) (c.requires.visits node (subst (λ l. IsTrue (is_active l node)) lists active)));
+          (λ node active. subst (λ (t : Tours). IsTrue (holds t.visits node)) (sym c.self.view_is)
+          (c.requires.visits node (subst (λ l. IsTrue (is_active l node)) lists active)));
       inactive_ones = c.write_inactive.ensures ∙ ap (λ l. inactive_of l after.lists) c.list.ensures.value;
     }

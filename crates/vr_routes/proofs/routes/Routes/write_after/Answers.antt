@@ -26,10 +26,13 @@ fill-requires-clause-room c =
     let once : IsOnce tours.lists = c.know_once.ensures in
     let i = c.self.invariant.tours in
     let final = changed tours.lists parts in
-    let have : HaveNodes c.self.inside.seating.nodes final = λ node active. held_below tours.visits c.self.inside.seating.nodes i.each_visit_is_node node (entry_after tours parts made once i.each_entry_is_visit node active) in
-    let low : (part_at parts c.args.k).vehicle < length final = (let n = as_many_lists tours.lists parts in let h = made.makes.parts_are.each_vehicle c.args.k no_part c.requires.part in omega (arith, n, h)) in
+    let have : HaveNodes c.self.inside.seating.nodes final = λ node active. held_below tours.visits c.self.inside.seating.nodes
+    i.each_visit_is_node node (entry_after tours parts made once i.each_entry_is_visit node active) in
+    let low : (part_at parts c.args.k).vehicle < length final =
+    (let n = as_many_lists tours.lists parts in let h = made.makes.parts_are.each_vehicle c.args.k no_part c.requires.part in omega (arith, n, h)) in
     let list = joined tours.lists (part_at parts c.args.k).pieces in
-    let fits = list_fits c.self.inside.seating.nodes final (once_after tours parts made once) have (part_at parts c.args.k).vehicle low list (part_is tours.lists parts made.makes.parts_are c.args.k c.requires.part) in
+    let fits = list_fits c.self.inside.seating.nodes final (once_after tours parts made once) have
+    (part_at parts c.args.k).vehicle low list (part_is tours.lists parts made.makes.parts_are c.args.k c.requires.part) in
     let same = ap (λ p. length (joined tours.lists p)) c.pieces.ensures.value in
     omega (arith, fits, same, i.few_nodes)
 

@@ -17,7 +17,8 @@ set_list-requires c =
       vehicle = omega (arith, low, many);
       nodes = subst (λ n. All (λ node. node < n) c.list.result.now) (sym (c.loop-v.invariant.nodes ∙ c.clear_all.ensures.nodes))
           (list_below c.args.self.now.nodes whole c.requires.once c.requires.nodes v low c.list.result.now (sym c.list.ensures.value));
-      once = subst (λ l. IsOnce (slice_set now v l)) (sym c.list.ensures.value) (filled_once whole now v many low (done_or_left whole now v c.loop-v.invariant.done c.loop-v.invariant.left) c.requires.once);
+      once = subst (λ l. IsOnce (slice_set now v l)) (sym c.list.ensures.value)
+          (filled_once whole now v many low (done_or_left whole now v c.loop-v.invariant.done c.loop-v.invariant.left) c.requires.once);
     }
 
 pub returns-clause-lists : goal.returns-clause-lists

@@ -12,7 +12,8 @@ loop-v-preserved c =
     let v : ℕ = c.loop-v.v in
     let many = c.loop-v.invariant.many in
     let low : v < length now = omega (arith, c.loop-v-test.true, many, c.requires.many) in
-    let row : c.as_slice.result.now ≡ route whole v = c.as_slice.ensures ∙ c.index-lists-v.is ∙ get_or_default whole v c.index-lists-v.result [] c.loop-v-test.true in
+    let row : c.as_slice.result.now ≡ route whole v = c.as_slice.ensures ∙ c.index-lists-v.is
+    ∙ get_or_default whole v c.index-lists-v.result [] c.loop-v-test.true in
     let left = c.clear_other.ensures.left in
     record {
       nodes = c.clear_other.ensures.nodes ∙ c.loop-v.invariant.nodes;

@@ -22,7 +22,8 @@ fill-requires-clause-may c =
     let now = c.loop-v.self.lists in
     let v : ℕ = c.loop-v.v in
     let many = c.loop-v.invariant.many ∙ c.requires.many in
-    let row : c.as_slice.result.now ≡ route whole v = c.as_slice.ensures ∙ c.index-lists-v.is ∙ get_or_default whole v c.index-lists-v.result [] c.loop-v-test.true in
+    let row : c.as_slice.result.now ≡ route whole v = c.as_slice.ensures ∙ c.index-lists-v.is
+    ∙ get_or_default whole v c.index-lists-v.result [] c.loop-v-test.true in
     record {
       vehicle = omega (arith, c.loop-v-test.true, many);
       nodes = subst (λ n. All (λ node. node < n) c.as_slice.result.now) (sym c.loop-v.invariant.nodes)
@@ -34,7 +35,8 @@ pub fill-requires-clause-there : goal.fill-requires-clause-there
 fill-requires-clause-there c =
     let whole = c.args.lists.now in
     let v : ℕ = c.loop-v.v in
-    let row : c.as_slice.result.now ≡ route whole v = c.as_slice.ensures ∙ c.index-lists-v.is ∙ get_or_default whole v c.index-lists-v.result [] c.loop-v-test.true in
+    let row : c.as_slice.result.now ≡ route whole v = c.as_slice.ensures ∙ c.index-lists-v.is
+    ∙ get_or_default whole v c.index-lists-v.result [] c.loop-v-test.true in
     subst (λ l. IsSameOrEmpty l (route c.loop-v.self.lists v)) (sym row) (c.loop-v.invariant.some v c.loop-v-test.true)
 
 pub loop-v-preserved : goal.loop-v-preserved
@@ -43,7 +45,8 @@ loop-v-preserved c =
     let now = c.loop-v.self.lists in
     let v : ℕ = c.loop-v.v in
     let low : v < length now = omega (arith, c.loop-v-test.true, c.loop-v.invariant.many, c.requires.many) in
-    let row : c.as_slice.result.now ≡ route whole v = c.as_slice.ensures ∙ c.index-lists-v.is ∙ get_or_default whole v c.index-lists-v.result [] c.loop-v-test.true in
+    let row : c.as_slice.result.now ≡ route whole v = c.as_slice.ensures ∙ c.index-lists-v.is
+    ∙ get_or_default whole v c.index-lists-v.result [] c.loop-v-test.true in
     let is : c.fill.new.self.lists ≡ slice_set now v (route whole v) = c.fill.ensures.lists ∙ ap (slice_set now v) row in
     record {
       nodes = c.fill.ensures.nodes ∙ c.loop-v.invariant.nodes;

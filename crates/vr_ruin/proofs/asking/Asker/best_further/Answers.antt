@@ -20,14 +20,17 @@ places-preserved c =
     let last = c.next-place.ensures.last in
     let here = delivery-passed-to model v list c.places.best c.bound_beside.result c.args.pickup c.args.delivery c.args.s c.places.t c.next-place.result alone
     (read ∙ c.alone-alone.ensures.value) m.begins c.next-place.ensures.first last c.bound_beside.ensures
-    (λ u low high. subst (λ m. IsAbove c.bound_beside.result (visit_increase m v list c.args.delivery u)) m.model (c.next-place.ensures.above u low high)) ∙ m.left in
-    let best = c.in_ok-best.ensures.best ∙ ap (λ m. weigh m list c.places.best (offer_for m v list (Two c.args.pickup c.args.delivery c.args.s c.next-place.result))) m.model in
+    (λ u low high. subst (λ m. IsAbove c.bound_beside.result (visit_increase m v list c.args.delivery u)) m.model (c.next-place.ensures.above u low high))
+    ∙ m.left in
+    let best = c.in_ok-best.ensures.best
+    ∙ ap (λ m. weigh m list c.places.best (offer_for m v list (Two c.args.pickup c.args.delivery c.args.s c.next-place.result))) m.model in
     record {
       model = c.in_ok-best.ensures.model ∙ m.model;
       begins = omega (arith, m.begins, c.next-place.ensures.first);
       within = omega (arith, last, c.if-place-n.false);
       left = ap (λ b. best_of model v list b (map (Two c.args.pickup c.args.delivery c.args.s) (from_to (c.next-place.result + 1) n))) best
-          ∙ walk_opens (λ ts. best_of model v list c.places.best (map (Two c.args.pickup c.args.delivery c.args.s) ts)) n c.next-place.result here (omega (arith, c.if-place-n.false));
+          ∙ walk_opens (λ ts. best_of model v list c.places.best (map (Two c.args.pickup c.args.delivery c.args.s) ts))
+          n c.next-place.result here (omega (arith, c.if-place-n.false));
     }
 
 pub returns-then-place-n-clause-best : goal.returns-then-place-n-clause-best
@@ -40,5 +43,7 @@ returns-then-place-n-clause-best c =
     let read : alone ≡ c.alone-alone.result = omega (arith, ints, c.alone-alone.ensures.low, c.alone-alone.ensures.high) in
     let here = delivery-passed-to model v list c.places.best c.bound_beside.result c.args.pickup c.args.delivery c.args.s c.places.t c.next-place.result alone
     (read ∙ c.alone-alone.ensures.value) m.begins c.next-place.ensures.first c.next-place.ensures.last c.bound_beside.ensures
-    (λ u low high. subst (λ m. IsAbove c.bound_beside.result (visit_increase m v list c.args.delivery u)) m.model (c.next-place.ensures.above u low high)) ∙ m.left in
-    walk_ends (λ ts. best_of model v list c.places.best (map (Two c.args.pickup c.args.delivery c.args.s) ts)) (suc (length list)) c.next-place.result here (omega (arith, c.if-place-n.true))
+    (λ u low high. subst (λ m. IsAbove c.bound_beside.result (visit_increase m v list c.args.delivery u)) m.model (c.next-place.ensures.above u low high))
+    ∙ m.left in
+    walk_ends (λ ts. best_of model v list c.places.best (map (Two c.args.pickup c.args.delivery c.args.s) ts))
+    (suc (length list)) c.next-place.result here (omega (arith, c.if-place-n.true))

@@ -9,7 +9,11 @@ use Rattle.vr_ruin.proofs.asking.Asker.best_pair.Goals as goal
 
 pub loop-s-init : goal.loop-s-init
 loop-s-init c = let n = suc (length c.args.list.nodes.now) in
-    record { model = refl; left = walk_begins (λ ss. best_of c.args.self.now c.args.list.vehicle c.args.list.nodes.now None (each ss λ s. map (Two c.args.pickup c.args.delivery s) (from_to s n))) n }
+    record {
+      model = refl;
+      left = walk_begins (λ ss. best_of c.args.self.now c.args.list.vehicle c.args.list.nodes.now
+          None (each ss λ s. map (Two c.args.pickup c.args.delivery s) (from_to s n))) n;
+    }
 
 pub loop-s-preserved : goal.loop-s-preserved
 loop-s-preserved c =
@@ -23,9 +27,11 @@ loop-s-preserved c =
     record {
       model = c.in_ok-best.ensures.model ∙ c.loop-s.invariant.model;
       left = ap (λ b. best_of model v list b later) best ∙ sym (best_of_both model v list c.loop-s.best here later)
-          ∙ walk_opens (λ ss. best_of model v list c.loop-s.best (each ss λ s. map (Two c.args.pickup c.args.delivery s) (from_to s n))) n c.loop-s.s c.loop-s.invariant.left (omega (arith, c.loop-s-test.true));
+          ∙ walk_opens (λ ss. best_of model v list c.loop-s.best (each ss λ s. map (Two c.args.pickup c.args.delivery s) (from_to s n)))
+          n c.loop-s.s c.loop-s.invariant.left (omega (arith, c.loop-s-test.true));
     }
 
 pub returns-clause-best : goal.returns-clause-best
 returns-clause-best c = let n = suc (length c.args.list.nodes.now) in
-    walk_ends (λ ss. best_of c.args.self.now c.args.list.vehicle c.args.list.nodes.now c.loop-s.best (each ss λ s. map (Two c.args.pickup c.args.delivery s) (from_to s n))) n c.loop-s.s c.loop-s.invariant.left (omega (arith, c.loop-s-test.false))
+    walk_ends (λ ss. best_of c.args.self.now c.args.list.vehicle c.args.list.nodes.now c.loop-s.best
+    (each ss λ s. map (Two c.args.pickup c.args.delivery s) (from_to s n))) n c.loop-s.s c.loop-s.invariant.left (omega (arith, c.loop-s-test.false))

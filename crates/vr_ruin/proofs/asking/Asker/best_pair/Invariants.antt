@@ -10,6 +10,7 @@ use Rattle.vr_ruin.proofs.asking.Asker.best_pair.Given as goal
 abbrev pub invariant-loop-s : goal.invariant-loop-s
 invariant-loop-s l = record {
   model : l.self ≡ l.fn.self;
-  left : best_of l.fn.self l.list.vehicle l.list.nodes.now l.best (each (from_to l.s (suc (length l.list.nodes.now))) λ s. map (Two l.pickup l.delivery s) (from_to s (suc (length l.list.nodes.now))))
+  left : best_of l.fn.self l.list.vehicle l.list.nodes.now l.best
+      (each (from_to l.s (suc (length l.list.nodes.now))) λ s. map (Two l.pickup l.delivery s) (from_to s (suc (length l.list.nodes.now))))
       ≡ best_of l.fn.self l.list.vehicle l.list.nodes.now None (placings_of l.list.nodes.now (PickupAndDelivery l.pickup l.delivery));
 }

@@ -12,10 +12,12 @@ pub groups_have_room-requires-clause-fit : goal.groups_have_room-requires-clause
 groups_have_room-requires-clause-fit c =
     let model = c.self.inside.lookups.closed.model.now in
     subst (λ marks. IsTrue (list_all (fits_by marks) model.groups)) (sym c.deref.ensures.value)
-    (groups_fit-open model c.self.inside.lookups.closed.well_formed c.args.routes.now.lists c.in_ok-marks.marks.items c.in_ok-marks.ensures (ap (λ m. is_open m c.args.routes.now.lists) c.self.view_is ∙ c.requires.are_open))
+    (groups_fit-open model c.self.inside.lookups.closed.well_formed c.args.routes.now.lists c.in_ok-marks.marks.items
+    c.in_ok-marks.ensures (ap (λ m. is_open m c.args.routes.now.lists) c.self.view_is ∙ c.requires.are_open))
 
 pub returns-then-not-is_grouped : goal.returns-then-not-is_grouped
-returns-then-not-is_grouped c = ungrouped-fits c.args.self.now c.args.routes.now.lists (item_nodes c.args.item) c.requires (sym c.is_grouped.ensures ∙ c.if-not-is_grouped.true)
+returns-then-not-is_grouped c =
+    ungrouped-fits c.args.self.now c.args.routes.now.lists (item_nodes c.args.item) c.requires (sym c.is_grouped.ensures ∙ c.if-not-is_grouped.true)
 
 pub returns : goal.returns
 returns c =

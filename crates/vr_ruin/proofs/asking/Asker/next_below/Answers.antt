@@ -13,7 +13,8 @@ invariant_of-driven c =
     let model = c.self.inside.lookups.closed.model.now in
     record {
       there = subst (λ m. c.args.list.vehicle < length m.vehicles) (sym c.self.view_is) c.requires.vehicle;
-      below = visits-below model c.args.list.nodes.now (subst (λ m. IsTrue (list_all (is_visit m) c.args.list.nodes.now)) (sym c.self.view_is) c.requires.may.visits);
+      below = visits-below model c.args.list.nodes.now
+          (subst (λ m. IsTrue (list_all (is_visit m) c.args.list.nodes.now)) (sym c.self.view_is) c.requires.may.visits);
     }
 
 pub arcs_to-costs-requires-clause-vehicle : goal.arcs_to-costs-requires-clause-vehicle
@@ -22,12 +23,14 @@ arcs_to-costs-requires-clause-vehicle c = subst (λ m. c.args.list.vehicle < len
 pub arcs_to-costs-requires-clause-node : goal.arcs_to-costs-requires-clause-node
 arcs_to-costs-requires-clause-node c =
     let model = c.self.inside.lookups.closed.model.now in
-    visits-below model (c.args.node ∷ []) (subst (λ m. IsTrue (list_all (is_visit m) (c.args.node ∷ []))) (sym c.self.view_is) c.requires.may.item_visits) 0 0 (omega arith)
+    visits-below model (c.args.node ∷ [])
+    (subst (λ m. IsTrue (list_all (is_visit m) (c.args.node ∷ []))) (sym c.self.view_is) c.requires.may.item_visits) 0 0 (omega arith)
 
 pub next_place-requires-clause-visit : goal.next_place-requires-clause-visit
 next_place-requires-clause-visit c =
     let model = c.self.inside.lookups.closed.model.now in
-    visits-below model (c.args.node ∷ []) (subst (λ m. IsTrue (list_all (is_visit m) (c.args.node ∷ []))) (sym c.self.view_is) c.requires.may.item_visits) 0 0 (omega arith)
+    visits-below model (c.args.node ∷ [])
+    (subst (λ m. IsTrue (list_all (is_visit m) (c.args.node ∷ []))) (sym c.self.view_is) c.requires.may.item_visits) 0 0 (omega arith)
 
 pub next_place-requires-clause-arcs : goal.next_place-requires-clause-arcs
 next_place-requires-clause-arcs c =

@@ -15,13 +15,15 @@ invariant_of-driven c =
     let model = c.self.inside.lookups.closed.model.now in
     record {
       there = subst (λ m. c.args.list.vehicle < length m.vehicles) (sym c.self.view_is) c.requires.vehicle;
-      below = visits-below model c.args.list.nodes.now (subst (λ m. IsTrue (list_all (is_visit m) c.args.list.nodes.now)) (sym c.self.view_is) c.requires.may.visits);
+      below = visits-below model c.args.list.nodes.now
+          (subst (λ m. IsTrue (list_all (is_visit m) c.args.list.nodes.now)) (sym c.self.view_is) c.requires.may.visits);
     }
 
 pub increase_of-requires-clause-nodes : goal.increase_of-requires-clause-nodes
 increase_of-requires-clause-nodes c =
     let model = c.self.inside.lookups.closed.model.now in
-    visits-below model (item_nodes (item_in c.args.placing)) (subst (λ m. IsTrue (list_all (is_visit m) (item_nodes (item_in c.args.placing)))) (sym c.self.view_is) c.requires.may.item_visits)
+    visits-below model (item_nodes (item_in c.args.placing))
+    (subst (λ m. IsTrue (list_all (is_visit m) (item_nodes (item_in c.args.placing)))) (sym c.self.view_is) c.requires.may.item_visits)
 
 pub returns : goal.returns
 returns c =

@@ -24,8 +24,10 @@ returns-then-self-clause-open c =
     let model = c.self.inside.lookups.closed.model.now in
     let list = c.args.list.nodes.now in
     let v = c.args.list.vehicle in
-    sym (plain-open model c.self.inside.lookups.closed.well_formed v (subst (λ m. v < length m.vehicles) (sym c.self.view_is) c.requires.vehicle) list c.args.placing c.requires.within
-    (c.self.invariant.carrier_is.plain_is c.if-self.true) (ap (λ m. carries_all m v list (item_nodes (item_in c.args.placing))) c.self.view_is ∙ c.requires.ready.carries))
+    sym (plain-open model c.self.inside.lookups.closed.well_formed v
+    (subst (λ m. v < length m.vehicles) (sym c.self.view_is) c.requires.vehicle) list c.args.placing c.requires.within
+    (c.self.invariant.carrier_is.plain_is c.if-self.true)
+    (ap (λ m. carries_all m v list (item_nodes (item_in c.args.placing))) c.self.view_is ∙ c.requires.ready.carries))
     ∙ ap (λ m. is_route_open m v (placed list c.args.placing)) c.self.view_is
 
 pub goes_in_each-requires-clause-may : goal.goes_in_each-requires-clause-may
@@ -39,10 +41,12 @@ goes_in_each-requires-clause-may c =
     record {
       vehicle = subst (λ m. v < length m.vehicles) same c.requires.vehicle;
       known = subst (λ m. IsKnownRoute m v c.args.list.known.now) same c.requires.ready.known.known;
-      used = subst (IsUsed model) written (placed-used model list placing c.requires.within (subst (λ m. MayHold m list (item_in placing)) same c.requires.may));
+      used =
+          subst (IsUsed model) written (placed-used model list placing c.requires.within (subst (λ m. MayHold m list (item_in placing)) same c.requires.may));
       shared = subst (SharesEnds c.args.list.known.now.nodes c.as_slice-nodes.result.now) (sym c.shared_with.ensures)
           (subst (λ new. SharesEnds c.args.list.known.now.nodes new (shared_of (length list) placing)) written
-          (subst (λ old. SharesEnds old (placed list placing) (shared_of (length list) placing)) (sym c.requires.ready.known.nodes_are) (placed-shares list placing c.requires.within)));
+          (subst (λ old. SharesEnds old (placed list placing) (shared_of (length list) placing))
+          (sym c.requires.ready.known.nodes_are) (placed-shares list placing c.requires.within)));
     }
 
 pub goes_in_each-requires-clause-carried : goal.goes_in_each-requires-clause-carried
@@ -52,20 +56,23 @@ goes_in_each-requires-clause-carried c =
     let v = c.args.list.vehicle in
     let same = sym c.self.view_is in
     subst (IsCarriedBy model v) (sym (c.as_slice-nodes.ensures ∙ c.in_ok-write_placed.ensures))
-    (loads-feasible model c.self.inside.lookups.closed.well_formed v (subst (λ m. v < length m.vehicles) same c.requires.vehicle) list c.args.placing c.requires.within
+    (loads-feasible model c.self.inside.lookups.closed.well_formed v
+    (subst (λ m. v < length m.vehicles) same c.requires.vehicle) list c.args.placing c.requires.within
     (ap (λ m. carries_all m v list (item_nodes (item_in c.args.placing))) c.self.view_is ∙ c.requires.ready.carries))
 
 pub keeps_rest-requires-clause-visits : goal.keeps_rest-requires-clause-visits
 keeps_rest-requires-clause-visits c =
     let model = c.self.inside.lookups.closed.model.now in
     ap (list_all (is_visit model)) (c.as_slice-nodes.ensures ∙ c.in_ok-write_placed.ensures)
-    ∙ visits_after model c.args.list.nodes.now c.args.placing c.requires.within (subst (λ m. MayHold m c.args.list.nodes.now (item_in c.args.placing)) (sym c.self.view_is) c.requires.may)
+    ∙ visits_after model c.args.list.nodes.now c.args.placing c.requires.within
+    (subst (λ m. MayHold m c.args.list.nodes.now (item_in c.args.placing)) (sym c.self.view_is) c.requires.may)
 
 pub keeps_rest-requires-clause-distinct : goal.keeps_rest-requires-clause-distinct
 keeps_rest-requires-clause-distinct c =
     let model = c.self.inside.lookups.closed.model.now in
     ap is_distinct (c.as_slice-nodes.ensures ∙ c.in_ok-write_placed.ensures)
-    ∙ distinct_after model c.args.list.nodes.now c.args.placing c.requires.within (subst (λ m. MayHold m c.args.list.nodes.now (item_in c.args.placing)) (sym c.self.view_is) c.requires.may)
+    ∙ distinct_after model c.args.list.nodes.now c.args.placing c.requires.within
+    (subst (λ m. MayHold m c.args.list.nodes.now (item_in c.args.placing)) (sym c.self.view_is) c.requires.may)
 
 pub returns-then-self-2-clause-open : goal.returns-then-self-2-clause-open
 returns-then-self-2-clause-open c =

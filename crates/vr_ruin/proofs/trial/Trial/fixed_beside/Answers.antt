@@ -14,7 +14,8 @@ passes false e = sym e
 pub returns-then-is_used-clause-value : goal.returns-then-is_used-clause-value
 returns-then-is_used-clause-value c =
     let t = c.args.self.now in
-    sym (ap (λ b. cond b (vehicle_at t.model c.args.v).fixed (pos 0)) (fails_not (is_empty (route t.lists c.args.v)) (sym c.is_used.ensures ∙ c.if-is_used.true)))
+    sym (ap (λ b. cond b (vehicle_at t.model c.args.v).fixed (pos 0))
+    (fails_not (is_empty (route t.lists c.args.v)) (sym c.is_used.ensures ∙ c.if-is_used.true)))
 
 pub fixed-requires : goal.fixed-requires
 fixed-requires c =
@@ -27,5 +28,6 @@ pub returns-clause-value : goal.returns-clause-value
 returns-clause-value c =
     let t = c.args.self.now in
     let unused = passes (is_empty (route t.lists c.args.v)) (sym c.is_used.ensures ∙ c.if-is_used.false) in
-    let fixed = c.fixed.ensures.value ∙ ap (λ t. (vehicle_at t.model c.args.v).fixed) c.self.view_is ∙ sym (ap (λ b. cond b (vehicle_at t.model c.args.v).fixed (pos 0)) unused) in
+    let fixed = c.fixed.ensures.value ∙ ap (λ t. (vehicle_at t.model c.args.v).fixed) c.self.view_is
+    ∙ sym (ap (λ b. cond b (vehicle_at t.model c.args.v).fixed (pos 0)) unused) in
     omega (arith, ints, c.fixed.ensures.low, c.fixed.ensures.high, fixed)

@@ -8,4 +8,5 @@ use Rattle.vr_ruin.proofs.trial.Trial.moving.Goals as goal
 
 pub returns-clause-value : goal.returns-clause-value
 unfolding cost
-returns-clause-value c = c.moving_of.ensures ∙ ap (λ (p : Parts). nat_abs ((sum_of p -ℤ p.fixed) -ℤ p.penalty)) c.in_ok-parts.ensures.parts ∙ ap (λ (t : OnTrial). moving_cost t.model t.lists) c.self.view_is
+returns-clause-value c = c.moving_of.ensures ∙ ap (λ (p : Parts). nat_abs ((sum_of p -ℤ p.fixed) -ℤ p.penalty)) c.in_ok-parts.ensures.parts
+    ∙ ap (λ (t : OnTrial). moving_cost t.model t.lists) c.self.view_is

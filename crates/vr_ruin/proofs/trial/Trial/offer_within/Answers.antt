@@ -20,7 +20,8 @@ best-requires-clause-may c =
     let list = c.list-nodes.ensures.value ∙ ap (λ t. route t.lists c.args.v) c.self.view_is in
     subst (λ m. MayHold m c.list-nodes.result.now c.args.item) (sym (ap (λ t. t.model) c.self.view_is))
     (subst (λ l. MayHold t.model l c.args.item) (sym list)
-    (may_hold t.model t.lists c.args.v c.args.item (subst (λ t. AreBuilt t.model t.lists) c.self.view_is c.self.invariant.built) (subst (λ l. length l ≤ 1000) list c.list-nodes.ensures.few) c.requires.item c.requires.inactive))
+    (may_hold t.model t.lists c.args.v c.args.item (subst (λ t. AreBuilt t.model t.lists) c.self.view_is c.self.invariant.built)
+    (subst (λ l. length l ≤ 1000) list c.list-nodes.ensures.few) c.requires.item c.requires.inactive))
 
 pub returns-clause-offer : goal.returns-clause-offer
 returns-clause-offer c =
@@ -41,7 +42,8 @@ take-requires-clause-tour c =
     let lists = c.self.inside.routes.lists in
     let same = sym c.lookups.ensures in
     record {
-      visits = subst (λ m. IsTrue (list_all (is_visit m) c.list-nodes.result.now)) same (ap (list_all (is_visit c.self.inside.asker)) c.list-nodes.ensures.value ∙ built-visits c.self.inside.asker lists c.args.v c.self.invariant.built);
+      visits = subst (λ m. IsTrue (list_all (is_visit m) c.list-nodes.result.now)) same
+          (ap (list_all (is_visit c.self.inside.asker)) c.list-nodes.ensures.value ∙ built-visits c.self.inside.asker lists c.args.v c.self.invariant.built);
       distinct = ap is_distinct c.list-nodes.ensures.value ∙ built-distinct c.self.inside.asker lists c.args.v c.self.invariant.built;
     }
 
@@ -49,7 +51,8 @@ pub invariant_of-self : goal.invariant_of-self
 invariant_of-self c = record {
   visits_are = c.self.invariant.visits_are;
   built = c.self.invariant.built;
-  known_are = known-set c.self.inside.asker c.self.inside.known.items c.args.v c.take.new.self c.self.invariant.known_are (subst (λ m. IsKnownRoute m c.args.v c.take.new.self) c.lookups.ensures c.take.ensures.known);
+  known_are = known-set c.self.inside.asker c.self.inside.known.items c.args.v c.take.new.self c.self.invariant.known_are
+      (subst (λ m. IsKnownRoute m c.args.v c.take.new.self) c.lookups.ensures c.take.ensures.known);
   spare_visits = c.self.invariant.spare_visits;
   spare_many = c.self.invariant.spare_many;
   room_many = c.self.invariant.room_many;
@@ -62,7 +65,8 @@ invariant_of-self-2 c =
       visits_are = c.self.invariant.visits_are ∙ ap visits same;
       built = subst (λ m. AreBuilt m c.self.inside.routes.lists) same c.self.invariant.built;
       known_are = subst (λ m. AreKnownRoutes m (set c.self.inside.known.items c.args.v c.take.new.self)) same
-          (known-set c.self.inside.asker c.self.inside.known.items c.args.v c.take.new.self c.self.invariant.known_are (subst (λ m. IsKnownRoute m c.args.v c.take.new.self) c.lookups.ensures c.take.ensures.known));
+          (known-set c.self.inside.asker c.self.inside.known.items c.args.v c.take.new.self c.self.invariant.known_are
+          (subst (λ m. IsKnownRoute m c.args.v c.take.new.self) c.lookups.ensures c.take.ensures.known));
       spare_visits = c.self.invariant.spare_visits ∙ ap visits same;
       spare_many = c.self.invariant.spare_many ∙ ap (λ m. length m.vehicles) same;
       room_many = c.self.invariant.room_many ∙ ap (λ m. length m.vehicles) same;

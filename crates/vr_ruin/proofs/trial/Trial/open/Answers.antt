@@ -12,9 +12,13 @@ invariant_of-result c =
     let model = c.args.lookups.now.closed.model.now in
     record {
       visits_are = c.in_ok-routes.ensures.visits ∙ ap visits (sym c.in_ok-open.ensures);
-      built = subst (λ m. AreBuilt m c.in_ok-routes.routes.lists) (sym c.in_ok-open.ensures) (subst (AreBuilt model) (sym c.in_ok-routes.ensures.lists) (AreBuilt-empty model));
-      known_are = subst (λ m. AreKnownRoutes m c.in_ok-known.known.items) (sym c.in_ok-open.ensures) (c.in_ok-known.ensures model (sym c.len.ensures) (sym c.len-2.ensures));
-      room_many = ap length c.in_ok-room.ensures ∙ length-replicate {A = List ℕ} (length model.vehicles) [] ∙ ap (λ m. length m.vehicles) (sym c.in_ok-open.ensures);
+      built = subst (λ m. AreBuilt m c.in_ok-routes.routes.lists) (sym c.in_ok-open.ensures)
+          (subst (AreBuilt model) (sym c.in_ok-routes.ensures.lists) (AreBuilt-empty model));
+      known_are = subst (λ m. AreKnownRoutes m c.in_ok-known.known.items) (sym c.in_ok-open.ensures)
+          (c.in_ok-known.ensures model (sym c.len.ensures) (sym c.len-2.ensures));
+      room_many = ap length c.in_ok-room.ensures ∙ length-replicate {A = List ℕ} (length model.vehicles) []
+          ∙ ap (λ m. length m.vehicles) (sym c.in_ok-open.ensures);
       spare_visits = c.in_ok-spare.ensures.visits ∙ ap visits (sym c.in_ok-open.ensures);
-      spare_many = ap length c.in_ok-spare.ensures.lists ∙ length-replicate {A = List ℕ} (length model.vehicles) [] ∙ ap (λ m. length m.vehicles) (sym c.in_ok-open.ensures);
+      spare_many = ap length c.in_ok-spare.ensures.lists ∙ length-replicate {A = List ℕ} (length model.vehicles) []
+          ∙ ap (λ m. length m.vehicles) (sym c.in_ok-open.ensures);
     }

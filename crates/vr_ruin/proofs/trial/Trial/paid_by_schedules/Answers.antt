@@ -12,5 +12,6 @@ returns-clause-value c =
     let lists = c.args.self.now.lists in
     let value : c.paid_of.result ≡ paid_cost model lists =
     c.paid_of.ensures.value ∙ ap (λ parts. sum_of parts -ℤ parts.penalty) c.in_ok-parts.ensures.parts
-    ∙ ap (λ t. sum_of (parts_at t.model (assigned t.model t.lists)) -ℤ penalty_part t.model t.lists) c.self.view_is ∙ ap (λ x. x -ℤ penalty_part model lists) (sum-is_cost model lists) in
+    ∙ ap (λ t. sum_of (parts_at t.model (assigned t.model t.lists)) -ℤ penalty_part t.model t.lists) c.self.view_is
+    ∙ ap (λ x. x -ℤ penalty_part model lists) (sum-is_cost model lists) in
     omega (arith, ints, value, c.paid_of.ensures.range.low, c.paid_of.ensures.range.high)

@@ -20,10 +20,13 @@ use Rattle.vr_ruin.proofs.trial.Trial.price_by_schedules.Goals.{After-as_slice}
 use Rattle.vr_ruin.proofs.trial.Trial.price_by_schedules.Goals as goal
 
 -- what is written is the list with the item
-written : (c : After-as_slice) → with_route c.assign.new.self.lists c.args.offer.vehicle c.as_slice.result.now ≡ inserted c.args.self.now.lists (insertion_of c.args.offer)
+written : (c : After-as_slice)
+    → with_route c.assign.new.self.lists c.args.offer.vehicle c.as_slice.result.now ≡ inserted c.args.self.now.lists (insertion_of c.args.offer)
 written c =
-    written_is c.args.self.now.lists c.assign.new.self.lists c.args.offer c.as_slice.result.now c.list.result.now (c.as_slice.ensures ∙ c.in_ok-write_placed.ensures)
-    (c.list.ensures.value ∙ ap (λ r. route r.lists c.args.offer.vehicle) (sym c.assign.ensures)) (ap (λ r. r.lists) c.assign.ensures ∙ ap (λ t. t.lists) c.self.view_is)
+    written_is c.args.self.now.lists c.assign.new.self.lists c.args.offer c.as_slice.result.now
+    c.list.result.now (c.as_slice.ensures ∙ c.in_ok-write_placed.ensures)
+    (c.list.ensures.value ∙ ap (λ r. route r.lists c.args.offer.vehicle) (sym c.assign.ensures))
+    (ap (λ r. r.lists) c.assign.ensures ∙ ap (λ t. t.lists) c.self.view_is)
 
 pub set_list-requires-clause-visits : goal.set_list-requires-clause-visits
 set_list-requires-clause-visits c = λ node active.
@@ -39,7 +42,9 @@ set_list-requires-clause-once c =
 
 pub set_list-requires-clause-room : goal.set_list-requires-clause-room
 set_list-requires-clause-room c =
-    ap length c.deref_mut.ensures.value ∙ c.self.invariant.room_many ∙ sym (are_lists-count c.self.inside.asker c.self.inside.routes.lists c.self.invariant.built.are_lists) ∙ ap (λ r. length r.lists) (sym c.assign.ensures)
+    ap length c.deref_mut.ensures.value ∙ c.self.invariant.room_many
+    ∙ sym (are_lists-count c.self.inside.asker c.self.inside.routes.lists c.self.invariant.built.are_lists)
+    ∙ ap (λ r. length r.lists) (sym c.assign.ensures)
 
 pub invariant_of-self-2 : goal.invariant_of-self-2
 invariant_of-self-2 c =
@@ -50,7 +55,9 @@ invariant_of-self-2 c =
       built = subst (λ m. AreBuilt m c.self.inside.routes.lists) (sym same) c.self.invariant.built;
       known_are = subst (λ m. AreKnownRoutes m c.self.inside.known.items) (sym same) c.self.invariant.known_are;
       spare_visits = c.in_ok-set_list.ensures.visits ∙ ap (λ r. r.visits) c.assign.ensures ∙ c.self.invariant.visits_are ∙ ap visits (sym same);
-      room_many = ap length (written_over c.self.inside.room.items c.set_list.new.room c.self.inside.room.len (c.in_ok-set_list.ensures.room ∙ ap length c.deref_mut.ensures.value) (sym c.deref_mut.ensures.len ∙ ap length c.deref_mut.ensures.value))
+      room_many = ap length
+          (written_over c.self.inside.room.items c.set_list.new.room c.self.inside.room.len
+          (c.in_ok-set_list.ensures.room ∙ ap length c.deref_mut.ensures.value) (sym c.deref_mut.ensures.len ∙ ap length c.deref_mut.ensures.value))
           ∙ c.in_ok-set_list.ensures.room ∙ ap length c.deref_mut.ensures.value ∙ c.self.invariant.room_many ∙ ap (λ m. length m.vehicles) (sym same);
       spare_many = ap length c.in_ok-set_list.ensures.lists ∙ length-set c.assign.new.self.lists c.args.offer.vehicle c.as_slice.result.now ∙ ap length before
           ∙ are_lists-count c.self.inside.asker c.self.inside.routes.lists c.self.invariant.built.are_lists ∙ ap (λ m. length m.vehicles) (sym same);

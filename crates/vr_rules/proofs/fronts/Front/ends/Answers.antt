@@ -20,6 +20,7 @@ returns c =
     let end = ap (λ (vehicle : Vehicle). vehicle.end) (sym (c.get.ensures.value no_vehicle)) in
     let arc = c.hop-arc.ensures.exact ∙ (λ t. hop_between model d v (last t) (end t)) in
     same_test _ _
-    (c.ends.ensures (line model d v whole) (at_end model c.args.longer.now.closed.well_formed d v front.dimension front.vehicle whole c.args.walk.now c.cross.new.self c.hop-arc.result
+    (c.ends.ensures (line model d v whole)
+    (at_end model c.args.longer.now.closed.well_formed d v front.dimension front.vehicle whole c.args.walk.now c.cross.new.self c.hop-arc.result
     c.args.self.now.ending c.args.self.now.breaks c.requires.here front.breaks c.in_ok-cross.ensures.exact arc front.ending c.requires.driven))
     (chosen_where_feasible (line model d v whole))

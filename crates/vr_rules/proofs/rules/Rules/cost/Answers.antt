@@ -16,7 +16,8 @@ with_marks-requires c =
     subst (λ model. IsTrue (are_lists model lists)) (sym c.self.view_is) (are-lists c.args.self.now lists c.requires.valid)
 
 pub parts_of-requires : goal.parts_of-requires
-parts_of-requires c = ap₂ is_open (c.in_ok-of.ensures.model ∙ c.self.view_is) c.in_ok-of.ensures.lists ∙ valid-open c.args.self.now c.args.routes.now.lists c.requires.valid
+parts_of-requires c = ap₂ is_open (c.in_ok-of.ensures.model ∙ c.self.view_is) c.in_ok-of.ensures.lists
+    ∙ valid-open c.args.self.now c.args.routes.now.lists c.requires.valid
 
 pub returns-clause-parts : goal.returns-clause-parts
 returns-clause-parts c =
@@ -28,4 +29,5 @@ returns-clause-total c =
     let model = c.in_ok-of.of.lookups.now.closed.model.now in
     let lists = c.in_ok-of.of.routes.now.lists in
     let valid = ap₂ is_valid (c.in_ok-of.ensures.model ∙ c.self.view_is) c.in_ok-of.ensures.lists ∙ c.requires.valid in
-    IfOk-weaker c.parts_of.result _ _ (λ parts is. subst HasTotal (sym is) (valid-total model c.in_ok-of.of.lookups.now.closed.well_formed lists valid)) c.parts_of.ensures.parts
+    IfOk-weaker c.parts_of.result _ _
+    (λ parts is. subst HasTotal (sym is) (valid-total model c.in_ok-of.of.lookups.now.closed.well_formed lists valid)) c.parts_of.ensures.parts

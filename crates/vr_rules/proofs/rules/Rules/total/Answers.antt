@@ -7,7 +7,8 @@ use Rattle.vr_rules.proofs.rules.Rules.total.Goals as goal
 pub returns-clause-value : goal.returns-clause-value
 returns-clause-value c =
     let h = c.in_ok-parts.ensures.total in
-    let value : c.total_cost.result ≡ cost c.args.self.now c.args.routes.now.lists = c.total_cost.ensures ∙ (ap sum_of c.in_ok-parts.ensures.parts ∙ sum-is_cost c.args.self.now c.args.routes.now.lists) in
+    let value : c.total_cost.result ≡ cost c.args.self.now c.args.routes.now.lists = c.total_cost.ensures
+    ∙ (ap sum_of c.in_ok-parts.ensures.parts ∙ sum-is_cost c.args.self.now c.args.routes.now.lists) in
     omega (arith, ints, value, c.total_cost.ensures, h.arcs, h.fixed, h.global, h.penalty, h.soft, h.span, h.sum)
 
 pub returns-clause-least : goal.returns-clause-least

@@ -8,13 +8,15 @@ use Rattle.vr_span.proofs.pieces.Piece.within.Goals as goal
 
 pub start_of-requires-clause-x : goal.start_of-requires-clause-x
 start_of-requires-clause-x c =
-    let lo : c.max-lo.result ≡ int_max c.args.self.lo c.args.run.lo = omega (arith, ints, clamps, c.max-lo.ensures.value, c.requires.near.lo, c.requires.run_lo) in
+    let lo : c.max-lo.result ≡ int_max c.args.self.lo c.args.run.lo =
+    omega (arith, ints, clamps, c.max-lo.ensures.value, c.requires.near.lo, c.requires.run_lo) in
     let near = near_max c.args.self.lo c.args.run.lo c.requires.near.lo c.requires.run_lo in
     subst IsNearNumber (sym (as_read c.max-lo.result (int_max c.args.self.lo c.args.run.lo) lo (near_is_wide _ near))) near
 
 pub start_of-requires-2-clause-x : goal.start_of-requires-2-clause-x
 start_of-requires-2-clause-x c =
-    let hi : c.min-hi.result ≡ int_min c.args.self.hi c.args.run.hi = omega (arith, ints, clamps, c.min-hi.ensures.value, c.requires.near.hi, c.requires.run_hi) in
+    let hi : c.min-hi.result ≡ int_min c.args.self.hi c.args.run.hi =
+    omega (arith, ints, clamps, c.min-hi.ensures.value, c.requires.near.hi, c.requires.run_hi) in
     let near = near_min c.args.self.hi c.args.run.hi c.requires.near.hi c.requires.run_hi in
     subst IsNearNumber (sym (as_read c.min-hi.result (int_min c.args.self.hi c.args.run.hi) hi (near_is_wide _ near))) near
 

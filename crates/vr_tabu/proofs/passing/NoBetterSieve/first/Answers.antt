@@ -15,10 +15,12 @@ returns-in-Some-clause-passed g c =
     let lists = c.args.self.now.routes.now.lists in
     let bound = to_z w64 (of_z w64 c.in-Some.bound) in
     let same : bound ≡ c.in-Some.bound = omega (arith, ints) in
-    told_of_each (λ k. IsNoLess (g.J.Judge.model c.args.judge.now) lists (with_last c.args.mv k) bound) (λ k. IsPassedInRound model lists c.args.self.now.bound (with_last c.args.mv k))
+    told_of_each (λ k. IsNoLess (g.J.Judge.model c.args.judge.now) lists (with_last c.args.mv k) bound)
+    (λ k. IsPassedInRound model lists c.args.self.now.bound (with_last c.args.mv k))
     (λ k told. subst (λ b. IsPassedInRound model lists b (with_last c.args.mv k)) (sym c.in-Some.is)
     (no_less_passed model lists c.in-Some.bound (with_last c.args.mv k)
-    (subst (λ d. IsNoLess model lists (with_last c.args.mv k) d) same (subst (λ (m : Model). IsNoLess m lists (with_last c.args.mv k) bound) c.requires.can_ask.judge_model told))))
+    (subst (λ d. IsNoLess model lists (with_last c.args.mv k) d) same
+    (subst (λ (m : Model). IsNoLess m lists (with_last c.args.mv k) bound) c.requires.can_ask.judge_model told))))
     c.args.from c.first_below.result c.first_below.ensures.no_less
 
 pub returns-in-Some-clause-can_ask : goal.returns-in-Some-clause-can_ask
@@ -33,4 +35,5 @@ first_below-requires-clause-well_formed g c = subst IsWellFormed (sym c.requires
 
 pub first_below-requires-clause-holds : goal.first_below-requires-clause-holds
 first_below-requires-clause-holds g c =
-    subst (λ (m : Model). HasCommitted m (g.J.Judge.committed c.args.judge.now) c.args.self.now.routes.now) (sym c.requires.can_ask.judge_model) c.requires.can_ask.holds
+    subst (λ (m : Model). HasCommitted m (g.J.Judge.committed c.args.judge.now) c.args.self.now.routes.now)
+    (sym c.requires.can_ask.judge_model) c.requires.can_ask.holds

@@ -15,6 +15,7 @@ invariant_of-result c =
     let fit = both_bounded c.args.model.now c.args.routes.now c.args.state.now c.requires.known in
     record {
       known = c.requires.known;
-      bounded = ceiling_where c.args.model.now (tabus_of c.args.state.now.tabus) c.args.state.now.best.routes.lists c.args.routes.now.lists (c.are_all_tabu.ensures c.if-not-are_all_tabu.false) _
+      bounded = ceiling_where c.args.model.now (tabus_of c.args.state.now.tabus) c.args.state.now.best.routes.lists
+          c.args.routes.now.lists (c.are_all_tabu.ensures c.if-not-are_all_tabu.false) _
           (omega (arith, ints, fit.0.least, fit.0.greatest, fit.1.least, fit.1.greatest, c.aspiration.ensures));
     }

@@ -30,11 +30,16 @@ use Rattle.vr_tabu.proofs.searching.State.advance.Goals.{After-follow, In-Best, 
 use Rattle.vr_tabu.proofs.searching.State.advance.Goals as goal
 
 -- the best candidate is that of the round, and it is the least
-best : (g : Over) (c : In-Best g) → (next_of c.args.closed.model.now c.args.parameters c.args.routes.now.lists c.args.self.now) ≡ Best c.in-Best.length c.in-Best.candidate.mv
-best g c = (of_best c.args.closed.model.now c.args.routes.now.lists (next_of c.args.closed.model.now c.args.parameters c.args.routes.now.lists c.args.self.now) c.in-Best.length c.in-Best.candidate (sym c.in-Best.is ∙ c.in_ok-ended.ensures.ends)).0
+best : (g : Over) (c : In-Best g)
+    → (next_of c.args.closed.model.now c.args.parameters c.args.routes.now.lists c.args.self.now) ≡ Best c.in-Best.length c.in-Best.candidate.mv
+best g c =
+    (of_best c.args.closed.model.now c.args.routes.now.lists (next_of c.args.closed.model.now c.args.parameters c.args.routes.now.lists c.args.self.now)
+    c.in-Best.length c.in-Best.candidate (sym c.in-Best.is ∙ c.in_ok-ended.ensures.ends)).0
 
-least : (g : Over) (c : In-Best g) → IsLeastCandidate c.args.closed.model.now (tabus_of c.args.self.now.tabus) c.args.self.now.best.routes.lists c.args.routes.now.lists (c.args.parameters.limit.tries - c.args.self.now.at.used) c.in-Best.length c.in-Best.candidate.mv
-least g c = best_where c.args.closed.model.now (tabus_of c.args.self.now.tabus) c.args.self.now.best.routes.lists c.args.routes.now.lists (c.args.parameters.limit.tries - c.args.self.now.at.used) c.in-Best.length c.in-Best.candidate.mv (best g c)
+least : (g : Over) (c : In-Best g) → IsLeastCandidate c.args.closed.model.now (tabus_of c.args.self.now.tabus) c.args.self.now.best.routes.lists
+    c.args.routes.now.lists (c.args.parameters.limit.tries - c.args.self.now.at.used) c.in-Best.length c.in-Best.candidate.mv
+least g c = best_where c.args.closed.model.now (tabus_of c.args.self.now.tabus) c.args.self.now.best.routes.lists
+    c.args.routes.now.lists (c.args.parameters.limit.tries - c.args.self.now.at.used) c.in-Best.length c.in-Best.candidate.mv (best g c)
 
 pub returns-in_err-ended-clause-told_in_part : goal.returns-in_err-ended-clause-told_in_part
 returns-in_err-ended-clause-told_in_part g c =
@@ -75,28 +80,35 @@ take-requires-clause-mv g c =
 pub take-requires-clause-change : goal.take-requires-clause-change
 take-requires-clause-change g c =
     let same = c.in_ok-ended.ensures.keeps.model ∙ c.requires.judge_model in
-    subst (λ m. IsChange m c.args.routes.now.lists c.in-Best.candidate.mv c.run_round.new.kept) (sym same) (changes g (goal.at.take-requires-clause-change g c).In-Best)
+    subst (λ m. IsChange m c.args.routes.now.lists c.in-Best.candidate.mv c.run_round.new.kept)
+    (sym same) (changes g (goal.at.take-requires-clause-change g c).In-Best)
 
 pub take-requires-clause-valid : goal.take-requires-clause-valid
 take-requires-clause-valid g c =
     let same = c.in_ok-ended.ensures.keeps.model ∙ c.requires.judge_model in
-    subst (λ m. IsTrue (is_valid m (apply m c.args.routes.now.lists c.in-Best.candidate.mv))) (sym same) (least g (goal.at.take-requires-clause-valid g c).In-Best).valid
+    subst (λ m. IsTrue (is_valid m (apply m c.args.routes.now.lists c.in-Best.candidate.mv)))
+    (sym same) (least g (goal.at.take-requires-clause-valid g c).In-Best).valid
 
 pub take-requires-clause-known : goal.take-requires-clause-known
 take-requires-clause-known g c =
     let same = c.in_ok-ended.ensures.keeps.model ∙ c.requires.judge_model in
-    (of_best c.args.closed.model.now c.args.routes.now.lists (next_of c.args.closed.model.now c.args.parameters c.args.routes.now.lists c.args.self.now) c.in-Best.length c.in-Best.candidate (sym c.in-Best.is ∙ c.in_ok-ended.ensures.ends)).1
+    (of_best c.args.closed.model.now c.args.routes.now.lists (next_of c.args.closed.model.now c.args.parameters c.args.routes.now.lists c.args.self.now)
+    c.in-Best.length c.in-Best.candidate (sym c.in-Best.is ∙ c.in_ok-ended.ensures.ends)).1
     ∙ ap (λ m. cost_change m c.args.routes.now.lists c.in-Best.candidate.mv) (sym same)
 
 -- what is told of the move are the events of the round
-event : (g : Over) (c : After-follow g) → next_of c.args.closed.model.now c.args.parameters c.args.routes.now.lists c.args.self.now ≡ Best c.in-Best.length c.in-Best.candidate.mv
-    → move_event (g.J.Judge.model c.run_round.new.judge) c.args.routes.now.lists c.in-Best.candidate.mv (c.args.self.now.at.used + c.in-Best.length) ∷ [] ≡ next_events c.args.closed.model.now c.args.parameters c.args.routes.now.lists c.args.self.now
+event : (g : Over) (c : After-follow g)
+    → next_of c.args.closed.model.now c.args.parameters c.args.routes.now.lists c.args.self.now ≡ Best c.in-Best.length c.in-Best.candidate.mv
+    → move_event (g.J.Judge.model c.run_round.new.judge) c.args.routes.now.lists c.in-Best.candidate.mv (c.args.self.now.at.used + c.in-Best.length) ∷ []
+    ≡ next_events c.args.closed.model.now c.args.parameters c.args.routes.now.lists c.args.self.now
 event g c is =
-    ap (λ m. move_event m c.args.routes.now.lists c.in-Best.candidate.mv (c.args.self.now.at.used + c.in-Best.length) ∷ []) (c.in_ok-ended.ensures.keeps.model ∙ c.requires.judge_model)
+    ap (λ m. move_event m c.args.routes.now.lists c.in-Best.candidate.mv (c.args.self.now.at.used + c.in-Best.length) ∷ [])
+    (c.in_ok-ended.ensures.keeps.model ∙ c.requires.judge_model)
     ∙ events_are c.args.closed.model.now c.args.parameters c.args.routes.now.lists c.args.self.now (Best c.in-Best.length c.in-Best.candidate.mv) is
 
 -- where the search stands then
-stands : (g : Over) (c : In_ok-take-in-Best g) → c.take.new.self.at ≡ after_move c.args.closed.model.now c.args.routes.now.lists c.in-Best.candidate.mv c.in-Best.length c.args.self.now.at
+stands : (g : Over) (c : In_ok-take-in-Best g)
+    → c.take.new.self.at ≡ after_move c.args.closed.model.now c.args.routes.now.lists c.in-Best.candidate.mv c.in-Best.length c.args.self.now.at
 stands g c =
     let same = c.in_ok-ended.ensures.keeps.model ∙ c.requires.judge_model in
     c.in_ok-take-in-Best.ensures.at ∙ ap (λ m. after_move m c.args.routes.now.lists c.in-Best.candidate.mv c.in-Best.length c.args.self.now.at) same
@@ -105,12 +117,14 @@ pub returns-in_err-take-in-Best-clause-told_in_part : goal.returns-in_err-take-i
 returns-in_err-take-in-Best-clause-told_in_part g c =
     let at = goal.at.returns-in_err-take-in-Best-clause-told_in_part g c in
     on_err c.from_residual-in_err-take-in-Best.result
-    (subst (λ es. ReportedInPart (λ w. (goal.Watch-dyn g (w.vtable, w.value)).after w.value) c.args.watch.now.items c.take.new.watch.items es) (event g at.After-follow (best g at.In-Best)) c.in_err-take-in-Best.ensures.told_in_part)
+    (subst (λ es. ReportedInPart (λ w. (goal.Watch-dyn g (w.vtable, w.value)).after w.value) c.args.watch.now.items c.take.new.watch.items es)
+    (event g at.After-follow (best g at.In-Best)) c.in_err-take-in-Best.ensures.told_in_part)
 
 pub returns-in_ok-take-in-Best-clause-told : goal.returns-in_ok-take-in-Best-clause-told
 returns-in_ok-take-in-Best-clause-told g c =
     let at = goal.at.returns-in_ok-take-in-Best-clause-told g c in
-    subst (λ es. Reported (λ w. (goal.Watch-dyn g (w.vtable, w.value)).after w.value) c.args.watch.now.items c.take.new.watch.items es) (event g at.After-follow (best g at.In-Best)) c.in_ok-take-in-Best.ensures.told
+    subst (λ es. Reported (λ w. (goal.Watch-dyn g (w.vtable, w.value)).after w.value) c.args.watch.now.items c.take.new.watch.items es)
+    (event g at.After-follow (best g at.In-Best)) c.in_ok-take-in-Best.ensures.told
 
 pub returns-in_ok-take-in-Best-clause-outcome : goal.returns-in_ok-take-in-Best-clause-outcome
 returns-in_ok-take-in-Best-clause-outcome g c =
@@ -123,20 +137,31 @@ returns-in_ok-take-in-Best-clause-outcome g c =
     let taken = c.in_ok-take-in-Best.ensures in
     let same = c.in_ok-ended.ensures.keeps.model ∙ c.requires.judge_model in
     let lists_new : c.take.new.routes.lists ≡ apply model lists mv = ap (λ r. r.lists) taken.routes ∙ ap (λ m. apply m lists mv) same in
-    let tabus_new = ap tabus_of taken.tabus ∙ (c.follow.ensures.next ∙ ap (λ after. next_round model c.args.parameters.tenure lists after (tabus_of state.tabus)) (changes g at.In-Best).lists_are) in
-    let best_new : new.best ≡ kept state.best c.take.new.routes (cost model c.take.new.routes.lists) = taken.best ∙ ap (λ m. kept state.best c.take.new.routes (cost m c.take.new.routes.lists)) same in
+    let tabus_new = ap tabus_of taken.tabus
+    ∙ (c.follow.ensures.next
+    ∙ ap (λ after. next_round model c.args.parameters.tenure lists after (tabus_of state.tabus)) (changes g at.In-Best).lists_are) in
+    let best_new : new.best ≡ kept state.best c.take.new.routes (cost model c.take.new.routes.lists) = taken.best
+    ∙ ap (λ m. kept state.best c.take.new.routes (cost m c.take.new.routes.lists)) same in
     let kept_new : new.best.routes.lists ≡ cheaper model state.best.routes.lists (apply model lists mv)
     = ap (λ b. b.routes.lists) best_new
-    ∙ (kept_lists model state.best c.take.new.routes (cost model c.take.new.routes.lists) c.requires.stands.going.best.costs refl ∙ ap (cheaper model state.best.routes.lists) lists_new) in
-    after_best model c.args.parameters lists state (apart c.args.self.now.at.found c.args.parameters.limit.solutions c.requires.more) c.in-Best.length mv (best g at.In-Best) new c.take.new.routes.lists tabus_new lists_new kept_new (stands g at.In_ok-take-in-Best)
+    ∙ (kept_lists model state.best c.take.new.routes (cost model c.take.new.routes.lists) c.requires.stands.going.best.costs refl
+    ∙ ap (cheaper model state.best.routes.lists) lists_new) in
+    after_best model c.args.parameters lists state (apart c.args.self.now.at.found c.args.parameters.limit.solutions c.requires.more)
+    c.in-Best.length mv (best g at.In-Best) new c.take.new.routes.lists tabus_new lists_new kept_new (stands g at.In_ok-take-in-Best)
 
 pub returns-in-Stuck-clause-outcome : goal.returns-in-Stuck-clause-outcome
 returns-in-Stuck-clause-outcome g c =
-    after_stuck c.args.closed.model.now c.args.parameters c.args.routes.now.lists c.args.self.now (apart c.args.self.now.at.found c.args.parameters.limit.solutions c.requires.more) c.in-Stuck.length (of_stuck c.args.closed.model.now c.args.routes.now.lists (next_of c.args.closed.model.now c.args.parameters c.args.routes.now.lists c.args.self.now) c.in-Stuck.length (sym c.in-Stuck.is ∙ c.in_ok-ended.ensures.ends))
+    after_stuck c.args.closed.model.now c.args.parameters c.args.routes.now.lists c.args.self.now
+    (apart c.args.self.now.at.found c.args.parameters.limit.solutions c.requires.more) c.in-Stuck.length
+    (of_stuck c.args.closed.model.now c.args.routes.now.lists (next_of c.args.closed.model.now c.args.parameters c.args.routes.now.lists c.args.self.now)
+    c.in-Stuck.length (sym c.in-Stuck.is ∙ c.in_ok-ended.ensures.ends))
 
 pub returns-in-Cut-clause-outcome : goal.returns-in-Cut-clause-outcome
 returns-in-Cut-clause-outcome g c =
-    after_cut c.args.closed.model.now c.args.parameters c.args.routes.now.lists c.args.self.now (apart c.args.self.now.at.found c.args.parameters.limit.solutions c.requires.more) (of_cut c.args.closed.model.now c.args.routes.now.lists (next_of c.args.closed.model.now c.args.parameters c.args.routes.now.lists c.args.self.now) (sym c.in-Cut.is ∙ c.in_ok-ended.ensures.ends)) c.requires.stands.going.used
+    after_cut c.args.closed.model.now c.args.parameters c.args.routes.now.lists c.args.self.now
+    (apart c.args.self.now.at.found c.args.parameters.limit.solutions c.requires.more)
+    (of_cut c.args.closed.model.now c.args.routes.now.lists (next_of c.args.closed.model.now c.args.parameters c.args.routes.now.lists c.args.self.now)
+    (sym c.in-Cut.is ∙ c.in_ok-ended.ensures.ends)) c.requires.stands.going.used
 
 -- ---- how often the judge was asked
 
@@ -148,7 +173,9 @@ pub returns-in_err-take-in-Best-clause-asked_at_most : goal.returns-in_err-take-
 returns-in_err-take-in-Best-clause-asked_at_most g c =
     let within = (least g (goal.at.returns-in_err-take-in-Best-clause-asked_at_most g c).In-Best).within in
     let tries = ap (tries_of (c.args.parameters.limit.tries - c.args.self.now.at.used)) c.in-Best.is in
-    on_err c.from_residual-in_err-take-in-Best.result (on_same _ _ _ _ _ (on_by _ _ _ _ _ c.in_ok-ended.ensures.asked (omega (arith, tries, within, c.requires.stands.going.used))) c.in_err-take-in-Best.ensures.asked c.in_err-take-in-Best.ensures.looked)
+    on_err c.from_residual-in_err-take-in-Best.result
+    (on_same _ _ _ _ _ (on_by _ _ _ _ _ c.in_ok-ended.ensures.asked (omega (arith, tries, within, c.requires.stands.going.used)))
+    c.in_err-take-in-Best.ensures.asked c.in_err-take-in-Best.ensures.looked)
 
 pub returns-in_ok-take-in-Best-clause-asked : goal.returns-in_ok-take-in-Best-clause-asked
 returns-in_ok-take-in-Best-clause-asked g c =
@@ -163,4 +190,5 @@ returns-in-Stuck-clause-asked g c =
 
 pub returns-in-Cut-clause-asked : goal.returns-in-Cut-clause-asked
 returns-in-Cut-clause-asked g c =
-    on_by _ _ _ _ _ c.in_ok-ended.ensures.asked (omega (arith, c.requires.stands.going.used, ap (tries_of (c.args.parameters.limit.tries - c.args.self.now.at.used)) c.in-Cut.is))
+    on_by _ _ _ _ _ c.in_ok-ended.ensures.asked
+    (omega (arith, c.requires.stands.going.used, ap (tries_of (c.args.parameters.limit.tries - c.args.self.now.at.used)) c.in-Cut.is))

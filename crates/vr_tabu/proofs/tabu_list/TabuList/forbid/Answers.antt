@@ -13,5 +13,6 @@ returns-clause-until c = λ visit.
     c.forbid_some-2.ensures.until visit
     ∙ (ap (λ xs. cond (holds xs visit && changes list visit) c.args.until (until_at c.forbid_some.new.self visit)) c.old_visits.ensures
     ∙ (ap (λ now. cond (holds list.old visit && changes list visit) c.args.until now) (c.forbid_some.ensures.until visit)
-    ∙ (ap (λ xs. cond (holds list.old visit && changes list visit) c.args.until (cond (holds xs visit && changes list visit) c.args.until (until_at c.args.self.now visit))) c.new_visits.ensures
+    ∙ (ap (λ xs. cond (holds list.old visit && changes list visit) c.args.until
+    (cond (holds xs visit && changes list visit) c.args.until (until_at c.args.self.now visit))) c.new_visits.ensures
     ∙ both_lists (holds list.new visit) (holds list.old visit) (changes list visit) c.args.until (until_at c.args.self.now visit) (changed_stands list visit))))

@@ -7,20 +7,31 @@ use Rattle.vr_tabu.proofs.tabu_list.TabuList.is_tabu.Goals.{After-frees}
 use Rattle.vr_tabu.proofs.tabu_list.TabuList.is_tabu.Goals as goal
 
 -- whether the list of this part frees
-freed : (c : After-frees) (b : Bool) → c.frees.result ≡ b → frees (tabus_of c.args.self.now) (change_of c.args.lists.closed.model.now c.args.lists.routes.now.lists c.args.lists.change.now c.loop-k.k) ≡ b
+freed : (c : After-frees) (b : Bool) → c.frees.result ≡ b
+    → frees (tabus_of c.args.self.now) (change_of c.args.lists.closed.model.now c.args.lists.routes.now.lists c.args.lists.change.now c.loop-k.k) ≡ b
 freed c b is = ap (frees (tabus_of c.args.self.now)) (sym c.list_change-list.ensures) ∙ (sym c.frees.ensures ∙ is)
 
 pub write-requires-clause-visits : goal.write-requires-clause-visits
-write-requires-clause-visits c = new_below_room c.args.lists.closed.model.now c.args.lists.routes.now.lists c.args.lists.change.now c.requires.made.makes.parts_are c.args.lists.before c.args.lists.after c.args.lists.closed.well_formed c.loop-k.k (omega (arith, c.loop-k-test.true, c.parts-k-end.ensures.value))
+write-requires-clause-visits c =
+    new_below_room c.args.lists.closed.model.now c.args.lists.routes.now.lists c.args.lists.change.now c.requires.made.makes.parts_are
+    c.args.lists.before c.args.lists.after c.args.lists.closed.well_formed c.loop-k.k (omega (arith, c.loop-k-test.true, c.parts-k-end.ensures.value))
 
 pub returns-then-frees : goal.returns-then-frees
 returns-then-frees c =
-    free_found c.args.lists.closed.model.now c.args.lists.routes.now.lists c.args.lists.change.now c.requires.made.makes.parts_are c.args.lists.before c.args.lists.after c.args.lists.closed.well_formed (tabus_of c.args.self.now)
-    (test_finds (λ j. frees (tabus_of c.args.self.now) (change_of c.args.lists.closed.model.now c.args.lists.routes.now.lists c.args.lists.change.now j)) (length c.args.lists.change.now) c.loop-k.k c.loop-k.invariant.left (omega (arith, c.loop-k-test.true, c.parts-k-end.ensures.value)) (freed (goal.at.returns-then-frees c).After-frees true c.if-frees.true))
+    free_found c.args.lists.closed.model.now c.args.lists.routes.now.lists c.args.lists.change.now c.requires.made.makes.parts_are
+    c.args.lists.before c.args.lists.after c.args.lists.closed.well_formed (tabus_of c.args.self.now)
+    (test_finds (λ j. frees (tabus_of c.args.self.now) (change_of c.args.lists.closed.model.now c.args.lists.routes.now.lists c.args.lists.change.now j))
+    (length c.args.lists.change.now) c.loop-k.k c.loop-k.invariant.left (omega (arith, c.loop-k-test.true, c.parts-k-end.ensures.value))
+    (freed (goal.at.returns-then-frees c).After-frees true c.if-frees.true))
 
 pub loop-k-preserved : goal.loop-k-preserved
 loop-k-preserved c =
-    record { left = test_goes_on (λ j. frees (tabus_of c.args.self.now) (change_of c.args.lists.closed.model.now c.args.lists.routes.now.lists c.args.lists.change.now j)) (length c.args.lists.change.now) c.loop-k.k c.loop-k.invariant.left (omega (arith, c.loop-k-test.true, c.parts-k-end.ensures.value)) (freed (goal.at.loop-k-preserved c).After-frees false c.if-frees.false) }
+    record {
+      left = test_goes_on
+          (λ j. frees (tabus_of c.args.self.now) (change_of c.args.lists.closed.model.now c.args.lists.routes.now.lists c.args.lists.change.now j))
+          (length c.args.lists.change.now) c.loop-k.k c.loop-k.invariant.left (omega (arith, c.loop-k-test.true, c.parts-k-end.ensures.value))
+          (freed (goal.at.loop-k-preserved c).After-frees false c.if-frees.false);
+    }
 
 pub returns : goal.returns
 returns c =

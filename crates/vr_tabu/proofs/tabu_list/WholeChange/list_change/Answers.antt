@@ -10,9 +10,11 @@ invariant_of-result c =
     let lists = whole.routes.now.lists in
     subst (λ new. IsListChange lists c.vehicle-vehicle.result new) (sym c.requires.written)
     (subst (λ v. IsListChange lists v (joined lists (part_at whole.change.now c.args.k).pieces)) (sym c.vehicle-vehicle.ensures)
-    (list_change whole.closed.model.now lists whole.change.now c.requires.made.makes.parts_are whole.before whole.after whole.closed.well_formed c.args.k c.requires.part))
+    (list_change whole.closed.model.now lists whole.change.now c.requires.made.makes.parts_are
+    whole.before whole.after whole.closed.well_formed c.args.k c.requires.part))
 
 pub returns : goal.returns
 returns c =
     let whole = c.args.self in
-    seen_as whole.closed.model.now whole.routes.now.lists whole.change.now c.args.k c.start_of.result c.vehicle-vehicle.result c.args.after.now c.vehicle-vehicle.ensures c.start_of.ensures c.requires.written
+    seen_as whole.closed.model.now whole.routes.now.lists whole.change.now c.args.k c.start_of.result
+    c.vehicle-vehicle.result c.args.after.now c.vehicle-vehicle.ensures c.start_of.ensures c.requires.written

@@ -9,4 +9,5 @@ pub returns : goal.returns
 unfolding demands_line
 returns c =
     let same = ap₂ (λ n rows. demand_row n rows (words c.args.line.now)) (sym c.node_count.ensures) (sym c.as_slice.ensures) in
-    known _ (same ∙ sym c.in_ok-row.ensures) (gives (ap₂ (λ next rows. record (with_place c.args.self.now next) { demands = rows }) c.demands_left-self.ensures c.in_ok-push.ensures.ok))
+    known _ (same ∙ sym c.in_ok-row.ensures)
+    (gives (ap₂ (λ next rows. record (with_place c.args.self.now next) { demands = rows }) c.demands_left-self.ensures c.in_ok-push.ensures.ok))

@@ -14,4 +14,5 @@ pub returns : goal.returns
 unfolding read_line
 returns c =
     let state = c.args.self.now in
-    changed (ap (λ b. if b then Ok state else line_at state.head.place state c.args.line.now) (sym c.is_wordless.ensures ∙ c.if-is_wordless.false)) c.line_at.ensures
+    changed (ap (λ b. if b then Ok state else line_at state.head.place state c.args.line.now) (sym c.is_wordless.ensures ∙ c.if-is_wordless.false))
+    c.line_at.ensures

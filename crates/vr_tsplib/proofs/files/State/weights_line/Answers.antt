@@ -12,10 +12,16 @@ returns-in_err-push_row c = stops_seen _ c.from_residual.result _ c.in_err-push_
 
 pub overflow_sub-count : goal.overflow_sub-count
 overflow_sub-count c =
-    omega (arith, c.len.ensures, c.len-before.ensures, row_longer c.args.left c.args.self.now.weights (words c.args.line.now) c.push_row.new.weights c.in_ok-push_row.ensures.value)
+    omega (
+      arith,
+      c.len.ensures,
+      c.len-before.ensures,
+      row_longer c.args.left c.args.self.now.weights (words c.args.line.now) c.push_row.new.weights c.in_ok-push_row.ensures.value,
+    )
 
 pub returns : goal.returns
 unfolding weights_line
 returns c =
-    let place = c.weights_left-self.ensures ∙ ap weights_left (c.saturating_sub.ensures ∙ ap₂ (λ all before. c.args.left - (all - before)) c.len.ensures c.len-before.ensures) in
+    let place = c.weights_left-self.ensures
+    ∙ ap weights_left (c.saturating_sub.ensures ∙ ap₂ (λ all before. c.args.left - (all - before)) c.len.ensures c.len-before.ensures) in
     then _ c.in_ok-push_row.ensures (gives (ap (λ next. record (with_place c.args.self.now next) { weights = c.push_row.new.weights }) place))

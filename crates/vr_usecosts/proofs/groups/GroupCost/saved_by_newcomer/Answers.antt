@@ -14,7 +14,8 @@ returns-clause-at_most c u one after =
     let x : ℕ = slice_index (route lists c.args.v) c.args.a in
     let paid = c.saved_at-paid.ensures in
     let most : c.self.inside.most ≡ kept.most = ap (λ k. k.most) c.self.view_is in
-    let is : c.saved_at-paid.result ≡ number_at kept.saved x = paid.value ∙ ap (λ k. number_at k.saved c.node_at-node.result) c.self.view_is ∙ ap (number_at kept.saved) c.node_at-node.ensures in
+    let is : c.saved_at-paid.result ≡ number_at kept.saved x = paid.value
+    ∙ ap (λ k. number_at k.saved c.node_at-node.result) c.self.view_is ∙ ap (number_at kept.saved) c.node_at-node.ensures in
     let less = newcomer-saves-at-most kept.model s.well_formed kept.saved s.saved_are lists s.valid c.args.v c.args.a u kept.most s.most_is one after in
     let few = s.most_is.range in
     omega (arith, ints, less, most, is, few.low, few.high, paid.range.low, paid.range.high)

@@ -23,10 +23,13 @@ returns-clause-exact c lists valid w s t one after =
     let model = c.args.self.now.model in
     let saved = c.args.self.now.saved in
     let pair = pair_at model c.args.p in
-    let got : c.get-pair.result.now ≡ pair = sym (c.get-pair.ensures.value (record { pickup = 0; delivery = 0 })) ∙ ap (λ k. pair_at k.model c.args.p) c.self.view_is in
+    let got : c.get-pair.result.now ≡ pair = sym (c.get-pair.ensures.value (record { pickup = 0; delivery = 0 }))
+    ∙ ap (λ k. pair_at k.model c.args.p) c.self.view_is in
     let p = c.saved_at-pickup.ensures in
     let d = c.saved_at-delivery.ensures in
-    let pickup : c.saved_at-pickup.result ≡ number_at saved pair.pickup = p.value ∙ (ap (λ k. number_at k.saved c.get-pair.result.now.pickup) c.self.view_is ∙ ap (λ (q : Pair). number_at saved q.pickup) got) in
-    let delivery : c.saved_at-delivery.result ≡ number_at saved pair.delivery = d.value ∙ (ap (λ k. number_at k.saved c.get-pair.result.now.delivery) c.self.view_is ∙ ap (λ (q : Pair). number_at saved q.delivery) got) in
+    let pickup : c.saved_at-pickup.result ≡ number_at saved pair.pickup = p.value
+    ∙ (ap (λ k. number_at k.saved c.get-pair.result.now.pickup) c.self.view_is ∙ ap (λ (q : Pair). number_at saved q.pickup) got) in
+    let delivery : c.saved_at-delivery.result ≡ number_at saved pair.delivery = d.value
+    ∙ (ap (λ k. number_at k.saved c.get-pair.result.now.delivery) c.self.view_is ∙ ap (λ (q : Pair). number_at saved q.delivery) got) in
     let is = pair-saves model c.requires.well_formed saved c.requires.saved lists valid c.args.p w s t one after in
     omega (arith, ints, is, pickup, delivery, p.range.low, p.range.high, d.range.low, d.range.high)

@@ -9,7 +9,8 @@ use Rattle.vr_usecosts.proofs.groups.GroupCostInfallibleCost.added.Goals as goal
 pub returns-then-not-self-clause-exact : goal.returns-then-not-self-clause-exact
 returns-then-not-self-clause-exact c =
     let s = c.requires.stands in
-    penalties-stay c.args.self.now.model s.well_formed c.args.routes.now.lists (changed c.args.routes.now.lists c.args.change.now) (sym s.pays_is ∙ (ap (λ k. k.pays) (sym c.self.view_is) ∙ c.if-not-self.true))
+    penalties-stay c.args.self.now.model s.well_formed c.args.routes.now.lists (changed c.args.routes.now.lists c.args.change.now)
+    (sym s.pays_is ∙ (ap (λ k. k.pays) (sym c.self.view_is) ∙ c.if-not-self.true))
 
 pub saved_in-gone-requires-clause-few : goal.saved_in-gone-requires-clause-few
 saved_in-gone-requires-clause-few c =
@@ -26,7 +27,9 @@ returns-clause-exact c =
     let s = c.requires.stands in
     let lists : List (List ℕ) = c.args.routes.now.lists in
     let saved = c.args.self.now.saved in
-    let change = penalties-change c.args.self.now.model s.well_formed saved s.saved_are lists (changed lists c.args.change.now) c.write.new.self (once-valid c.args.self.now.model lists s.valid) (once-after c.args.self.now.model c.args.routes.now s.of_model s.valid c.args.change.now c.requires.made) c.write.ensures in
+    let change = penalties-change c.args.self.now.model s.well_formed saved s.saved_are lists
+    (changed lists c.args.change.now) c.write.new.self (once-valid c.args.self.now.model lists s.valid)
+    (once-after c.args.self.now.model c.args.routes.now s.of_model s.valid c.args.change.now c.requires.made) c.write.ensures in
     let same = ap (λ k. k.saved) c.self.view_is in
     let g = c.saved_in-gone.ensures in
     let h = c.saved_in-come.ensures in
