@@ -81,7 +81,7 @@ fn of_routes(
         Asks::Filter(filter, moves) => filters::passes(alloc, closed, routes, filter, moves),
         Asks::Part(part, mv, added) => parts::adds(alloc, closed, routes, part, mv, added),
         Asks::Kept(paid, first, second) => kept::tells(alloc, closed, routes, paid, first, second),
-        Asks::Judge(by, question) => asked::answers(alloc, closed, routes, by, question),
+        Asks::Judge(by, question) => judge_questions::answers(alloc, closed, routes, by, question),
         Asks::Cuts(cuts) => cuts::finds(alloc, closed, routes, cuts),
     }
 }
