@@ -1,9 +1,11 @@
 -- What is known of items in lists.
-use Rattle.std.proofs.Common.{◌≡◌, ◌∙◌, ◌<◌, ◌+◌, ℕ, zero, suc, List, [], Bool, true, false, Option, refl, ap, sym, subst, inl, inr, arith, length, length-set}
+use Rattle.std.proofs.Common.{◌≡◌, ◌∙◌, ◌<◌, ◌+◌, ℕ, zero, suc, List, [], Bool, true, false, Option, Some, None, refl}
+use Rattle.std.proofs.Common.{ap, sym, subst, inl, inr, arith, length, length-set}
 use Rattle.std.specs.Prelude.{map, not, replicate, slice_index_or, slice_set}
 use Rattle.std.specs.List.{list_all}
 use Rattle.std.proofs.lemmas.Bool.{cases_lt}
 use Rattle.std.proofs.lemmas.Bool.Decides.{eqb_tells}
+use Rattle.std.proofs.lemmas.Int.{ints}
 use Rattle.std.proofs.lemmas.List.{get_or-set_same, get_or-set_other}
 use Rattle.vr_model.specs.tables.Numbers.{from_to}
 use Rattle.vr_model.specs.routes.Routes.{route}
@@ -21,9 +23,12 @@ use Rattle.vr_first_insert.specs.declared.choice.Placing.TheVariants.{One, Two}
 use Rattle.vr_first_insert.specs.declared.known_best.KnownItem.{KnownItem}
 use Rattle.vr_first_insert.specs.declared.known_best.KnownItem.TheVariants.{Nothing, AtLeast, Best}
 use Rattle.vr_model.proofs.tables.Tests.{clash}
-use Rattle.vr_first_insert.specs.Kept.{best_of, candidate_at, is_settled, known_row, AreCandidatesKnown, AreKnownRows, IsForgotten, IsCandidateKnown}
-use Rattle.vr_first_insert.specs.Placings.{best_in, choices_in, may_improve, pair_choice, placed, visit_choice}
+use Rattle.vr_first_insert.specs.Kept.{best_of, candidate_at, is_settled, leaves_best, known_row}
+use Rattle.vr_first_insert.specs.Kept.{AreCandidatesKnown, AreKnownRows, IsForgotten, IsCandidateKnown}
+use Rattle.vr_first_insert.specs.Placings.{best_in, choices_in, key_of, may_improve, pair_choice, placed, visit_choice}
 use Rattle.vr_first_insert.proofs.ReadyLemmas.{closed-by_vehicle, passed-closed}
+use Rattle.vr_rules.proofs.LazyLeast.{untested}
+use Rattle.vr_first_insert.proofs.BoundLemmas.{none-improves}
 use Rattle.vr_first_insert.proofs.ToldLemmas.{best-merged, bound-passed_over}
 
 -- an item of which the vehicle may not visit some node
@@ -57,6 +62,27 @@ settled-is model v list candidate Nothing best h is = absurd (clash false h refl
 settled-is model v list candidate (AtLeast bound) best h is =
     bound-passed_over model v list candidate best bound.least is (no-better (may_improve best candidate.class bound.least) h)
 settled-is model v list candidate (Best found) best h is = best-merged model v list candidate found best is
+
+left-settled : (known : KnownItem) (class : ℕ) (best : Option InsertionChoice) → leaves_best known class best ≡ true → is_settled known class best ≡ true
+left-settled Nothing class best h = h
+left-settled (AtLeast bound) class best h = h
+left-settled (Best None) class best h = refl
+left-settled (Best (Some next)) class best h = refl
+
+left-best : (known : KnownItem) (class : ℕ) (best : Option InsertionChoice) → leaves_best known class best ≡ true → best ≡ best_of known best
+left-best Nothing class best h = refl
+left-best (AtLeast bound) class best h = refl
+left-best (Best None) class best h = refl
+left-best (Best (Some next)) class best h =
+    untested key_of best next true
+    (none-improves best next.class next.increase (no-better (may_improve best next.class next.increase) h) next refl (omega (arith, ints)))
+
+-- where what is known leaves the best so far as it is, that is the best beside it
+pub left-is : (model : Model) (v : ℕ) (list : List ℕ) (candidate : Candidate) (known : KnownItem) (best : Option InsertionChoice)
+    → leaves_best known candidate.class best ≡ true → IsCandidateKnown model v list candidate known → best ≡ best_in model v list candidate best
+left-is model v list candidate known best h is =
+    left-best known candidate.class best h
+    ∙ settled-is model v list candidate known best (left-settled known candidate.class best h) is
 
 -- what is known of one candidate is written
 pub known-written : (model : Model) (v : ℕ) (list : List ℕ) (candidates : List Candidate) (row : List KnownItem) (i : ℕ) (known : KnownItem)

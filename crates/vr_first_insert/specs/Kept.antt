@@ -32,6 +32,13 @@ is_settled Nothing class best = false
 is_settled (AtLeast bound) class best = not (may_improve best class bound.least)
 is_settled (Best found) class best = true
 
+-- what is known of an item of a class leaves the best so far as it is: no insertion into the list is better
+abbrev pub leaves_best : KnownItem → ℕ → Option InsertionChoice → Bool
+leaves_best Nothing class best = false
+leaves_best (AtLeast bound) class best = not (may_improve best class bound.least)
+leaves_best (Best None) class best = true
+leaves_best (Best (Some next)) class best = not (may_improve best next.class next.increase)
+
 -- an item adds at least this much, whatever place of the list of vehicle v it is put before
 abbrev pub AddsAtLeast : Model → ℕ → List ℕ → Item → ℤ → Type 0
 AddsAtLeast model v list (Visit node) least = VisitAddsAtLeast model v list node least

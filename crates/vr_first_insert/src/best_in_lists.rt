@@ -88,6 +88,28 @@ fn ask(
     Ok(better_of(best, &told))
 }
 
+// Takes the better of the best so far and the best insertion of candidate `i` into the list of vehicle `v`. Most lists
+// leave the best so far as it is, by what is known of the candidate there. Then nothing is copied.
+fn settle_over(
+    scratch: &mut InsertScratch,
+    on: &AskedLists<'_, '_, '_, '_>,
+    v: usize,
+    i: usize,
+    known_here: &mut KnownItems,
+    best: &mut Option<InsertionChoice>,
+) -> Result<(), NoMemory>
+    requires { MayAsk on.now v i known_here.old }
+    ensures best { OnOk result (best.new ≡ best_asked on.now v i best.old) }
+    ensures known { OnOk result (AreKnownIn on.now v known_here.new) }
+{
+    let candidates = on.items.candidates;
+    if known_here.leaves_best(i, candidates[i].class, best) {
+        return Ok(());
+    }
+    *best = settle(scratch, on, v, i, known_here, *best)?;
+    Ok(())
+}
+
 /// The better of the best so far and the best insertion of candidate `i` into any list. `known_items` has, for each
 /// list, what is known of the candidates in it.
 pub(crate) fn best_in_lists(
@@ -104,7 +126,7 @@ pub(crate) fn best_in_lists(
     let mut best = best;
     for v in 0..on.lists.len() {
         let known_here = &mut known_items[v];
-        best = settle(scratch, on, v, i, known_here, best)?;
+        settle_over(scratch, on, v, i, known_here, &mut best)?;
     }
     Ok(best)
 }

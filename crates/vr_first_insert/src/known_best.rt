@@ -3,6 +3,7 @@
 ghost use Rattle.std.specs.Prelude.{◌≡◌, ◌<◌, IfOk, length, replicate};
 ghost use Rattle.vr_first_insert.specs.Kept.{begun_with as begun_with_of, best_of, better_choice};
 ghost use Rattle.vr_first_insert.specs.Kept.{is_settled as is_settled_of, known_by_search as known_by_search_of};
+ghost use Rattle.vr_first_insert.specs.Kept.{leaves_best as leaves_best_of};
 ghost use Rattle.vr_first_insert.specs.Kept.{AddsAtLeast, BestAddsAtLeast, IsForgotten};
 ghost use Rattle.vr_first_insert.specs.VehicleLists.{best_of_candidate, sought_in, tried_in, IsKnownOf, IsReadyList};
 ghost use Rattle.vr_first_insert.specs.KeptRows.{list_model};
@@ -46,6 +47,20 @@ pub(crate) fn is_settled(known: &KnownItem, class: u32, best: Option<InsertionCh
         KnownItem::Nothing => false,
         KnownItem::AtLeast(bound) => !may_improve(best, class, bound.least),
         KnownItem::Best(_) => true,
+    }
+}
+
+/// Whether the best so far stays, by what is known of an item of a class: no insertion into the list is better. Of most
+/// lists this is so. It reads the class and the increase alone, and copies no choice.
+#[inline]
+pub(crate) fn leaves_best(known: &KnownItem, class: u32, best: &Option<InsertionChoice>) -> bool
+    ensures { result ≡ leaves_best_of known.now class best.now }
+{
+    match known {
+        KnownItem::Nothing => false,
+        KnownItem::AtLeast(bound) => !may_improve(*best, class, bound.least),
+        KnownItem::Best(Some(next)) => !may_improve(*best, next.class, next.increase),
+        KnownItem::Best(None) => true,
     }
 }
 

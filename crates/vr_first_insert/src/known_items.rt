@@ -3,8 +3,10 @@
 ghost use Rattle.std.specs.Prelude.{◌≡◌, ◌<◌, ◌≤◌, ℕ, All, IfOk, length, replicate, slice_index_or, slice_set};
 ghost use Rattle.vr_first_insert.specs.declared.known_best.KnownItem.TheVariants.{Nothing};
 ghost use Rattle.vr_first_insert.specs.Found.{known_after};
+ghost use Rattle.vr_first_insert.specs.Kept.{leaves_best as leaves_best_of};
 
-use crate::known_best::KnownItem;
+use crate::choice::InsertionChoice;
+use crate::known_best::{KnownItem, leaves_best};
 use std::alloc::Global;
 use std::marker::Model;
 use vr_model::{NoMemory, Seq};
@@ -57,6 +59,16 @@ impl KnownItems {
         known_of(found, self.changes)
     }
 
+    /// Whether the best so far stays, by what is known of item `i`, of a class (`leaves_best`). It takes no memory.
+    #[inline]
+    pub(crate) fn leaves_best(&self, i: usize, class: u32, best: &Option<InsertionChoice>) -> bool
+        requires { i < length self.now }
+        ensures { result ≡ leaves_best_of (slice_index_or self.now i Nothing) class best.now }
+    {
+        let found = self.found.get(i);
+        still_leaves_best(found, self.changes, class, best)
+    }
+
     /// Writes what is known of item `i`. It takes no memory.
     #[inline]
     pub(crate) fn set(&mut self, i: usize, known: KnownItem)
@@ -91,6 +103,23 @@ fn known_of(found: &FoundItem, changes: u64) -> KnownItem
         found.known
     } else {
         KnownItem::Nothing
+    }
+}
+
+// Whether the best so far stays, by what is known after `changes` changes of the list.
+#[inline]
+fn still_leaves_best(
+    found: &FoundItem,
+    changes: u64,
+    class: u32,
+    best: &Option<InsertionChoice>,
+) -> bool
+    ensures { result ≡ leaves_best_of (known_after changes found.now) class best.now }
+{
+    if found.since == changes {
+        leaves_best(&found.known, class, best)
+    } else {
+        false
     }
 }
 

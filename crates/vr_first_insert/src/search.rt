@@ -154,6 +154,7 @@ fn insert_waiting(
                     marks,
                     lists,
                     choice.vehicle as usize,
+                    known_items,
                     waiting,
                 );
             }

@@ -4,14 +4,16 @@
 ghost use Rattle.std.specs.Prelude.{◌≡◌, ◌<◌, All, IfOk, OnOk, Some, length};
 ghost use Rattle.vr_model.specs.first.Items.{first_node};
 ghost use Rattle.vr_rules.specs.Placing.{is_marked as is_marked_by, item_nodes};
-ghost use Rattle.vr_first_insert.specs.Kept.{candidate_at};
-ghost use Rattle.vr_first_insert.specs.Asking.{items_model, AreItems, MayLower, MayLowerEach};
+ghost use Rattle.vr_first_insert.specs.Kept.{candidate_at, AreKnownRows};
+ghost use Rattle.vr_first_insert.specs.Asking.{items_model, AreItems, AreKnownIn, MayLower, MayLowerEach};
 ghost use Rattle.vr_first_insert.specs.Waiting.{comes_later as comes_later_of, is_passed_over as is_passed_over_of};
 ghost use Rattle.vr_first_insert.specs.Waiting.{least_told as least_told_of, waiting_candidates, with_waiting};
 ghost use Rattle.vr_first_insert.specs.Waiting.{AreFirstWaiting, IsLeastAnywhere, IsWaiting};
 
 use crate::best_in_lists::{AskedLists, Items, adds_at_least};
 use crate::choice::{InsertionChoice, may_improve};
+use crate::known_best::{Bound, KnownItem};
+use crate::known_items::KnownItems;
 use crate::list_rows::ListRows;
 use std::alloc::Global;
 use vr_model::{NoMemory, Seq};
@@ -122,22 +124,31 @@ pub(crate) fn unmarked(
 }
 
 // What is known of a waiting item after the list of vehicle `v` has changed. To the other lists the item adds at least
-// `least`. Nothing is kept of an item that is marked.
+// `least`. What it adds at least to this one is written to what is known of the candidates here. So the next search of
+// the list does not work it out again. Nothing is kept of an item that is marked.
 fn lowered_by_list(
     on: &AskedLists<'_, '_, '_, '_>,
     marks: &[bool],
     v: usize,
     number: usize,
     least: i64,
+    known_here: &mut KnownItems,
 ) -> Option<i64>
-    requires { MayLower on.now marks.now v (record { number = number; least = Some least }) }
-    ensures { IsLeastAnywhere (items_model on.now.items) on.now.lists.now
+    requires lower { MayLower on.now marks.now v (record { number = number; least = Some least }) }
+    requires known { AreKnownIn on.now v known_here.old }
+    ensures least { IsLeastAnywhere (items_model on.now.items) on.now.lists.now
         (candidate_at on.now.items.candidates.now number) result }
+    ensures known { AreKnownIn on.now v known_here.new }
 {
     if is_marked(marks, on.items.candidates[number]) {
         return None;
     }
     let here = adds_at_least(on, v, number);
+    let bound = Bound {
+        least: here,
+        searched: false,
+    };
+    known_here.set(number, KnownItem::AtLeast(bound));
     Some(least.min(here))
 }
 
@@ -147,27 +158,34 @@ fn lowered(
     marks: &[bool],
     v: usize,
     item: WaitingItem,
+    known_here: &mut KnownItems,
 ) -> Option<i64>
-    requires { MayLower on.now marks.now v item }
-    ensures { IsLeastAnywhere (items_model on.now.items) on.now.lists.now
+    requires lower { MayLower on.now marks.now v item }
+    requires known { AreKnownIn on.now v known_here.old }
+    ensures least { IsLeastAnywhere (items_model on.now.items) on.now.lists.now
         (candidate_at on.now.items.candidates.now item.number) result }
+    ensures known { AreKnownIn on.now v known_here.new }
 {
     match item.least {
-        Some(least) => lowered_by_list(on, marks, v, item.number, least),
+        Some(least) => lowered_by_list(on, marks, v, item.number, least, known_here),
         None => None,
     }
 }
 
-/// Writes what is known of the waiting items after the list of vehicle `v` has changed.
+/// Writes what is known of the waiting items after the list of vehicle `v` has changed. That is what each adds at least
+/// to this list, and to any list.
 pub(crate) fn lower(
     items: &Items<'_, '_, '_>,
     list_rows: &[ListRows],
     marks: &[bool],
     lists: &[Seq<u32>],
     v: usize,
+    known_items: &mut [KnownItems],
     waiting: &mut [WaitingItem],
 )
-    requires { MayLowerEach items.now list_rows.now marks.now lists.now v waiting.old }
+    requires lower { MayLowerEach items.now list_rows.now marks.now lists.now v waiting.old }
+    requires known { AreKnownRows (items_model items.now) lists.now items.now.candidates.now known_items.old }
+    ensures known { AreKnownRows (items_model items.now) lists.now items.now.candidates.now known_items.new }
     ensures waiting { All (IsWaiting (items_model items.now) lists.now items.now.candidates.now) waiting.new }
     ensures same { waiting_candidates items.now.candidates.now waiting.new
         ≡ waiting_candidates items.now.candidates.now waiting.old }
@@ -179,7 +197,8 @@ pub(crate) fn lower(
     };
     for k in 0..waiting.len() {
         let item = waiting[k];
-        let least = lowered(&on, marks, v, item);
+        let known_here = &mut known_items[v];
+        let least = lowered(&on, marks, v, item, known_here);
         waiting[k] = WaitingItem {
             number: item.number,
             least,

@@ -7,8 +7,8 @@ use Rattle.vr_first_insert.proofs.InsertLemmas.{best_in_lists-more}
 use Rattle.vr_first_insert.proofs.KeptLemmas.{row-written}
 use Rattle.vr_first_insert.proofs.best_in_lists.best_in_lists.Goals as goal
 
-pub settle-requires : goal.settle-requires
-settle-requires c =
+pub settle_over-requires : goal.settle_over-requires
+settle_over-requires c =
     let model = c.args.on.now.items.lookups.now.closed.model.now in
     let lists = c.args.on.now.lists.now in
     let v : ℕ = c.loop-v.v in
@@ -32,8 +32,8 @@ loop-v-preserved c =
     let v : ℕ = c.loop-v.v in
     let candidate = candidate_at c.args.on.now.items.candidates.now c.args.i in
     record {
-      best = c.in_ok-best.ensures.best
+      best = c.in_ok-settle_over.ensures.best
           ∙ ap (best_in model v (route lists v) candidate) c.loop-v.invariant.best ∙ sym (best_in_lists-more model lists candidate v c.args.best);
       known = row-written model lists c.args.on.now.items.candidates.now c.loop-v.known_items
-          v c.settle.new.known_here c.loop-v.invariant.known c.in_ok-best.ensures.known;
+          v c.settle_over.new.known_here c.loop-v.invariant.known c.in_ok-settle_over.ensures.known;
     }

@@ -40,8 +40,8 @@ forget-requires c =
     let many = c.in_ok-next.ensures.known.many in
     record { vehicle = omega (arith, there, many) }
 
-pub lower-requires : goal.lower-requires
-lower-requires c =
+pub lower-requires-clause-lower : goal.lower-requires-clause-lower
+lower-requires-clause-lower c =
     let model = c.args.items.now.lookups.now.closed.model.now in
     let lists : List (List ℕ) = c.loop-step.lists in
     let after : List (List ℕ) = c.place_in.new.lists in
@@ -66,6 +66,20 @@ lower-requires c =
           (all-elsewhere model lists v list c.args.items.now.candidates.now c.next_insertion.new.waiting c.in_ok-next.ensures.waiting.each);
     }
 
+pub lower-requires-clause-known : goal.lower-requires-clause-known
+lower-requires-clause-known c =
+    let model = c.args.items.now.lookups.now.closed.model.now in
+    let lists : List (List ℕ) = c.loop-step.lists in
+    let candidates = c.args.items.now.candidates.now in
+    let choice : InsertionChoice = c.in-Some.choice in
+    let v : ℕ = choice.vehicle in
+    let list : List ℕ = placed (route lists v) choice.placing in
+    let may : MayBeInserted model lists choice = rw c.in-Some.is at c.in_ok-next.ensures.may in
+    let is : c.place_in.new.lists ≡ with_route lists v list = c.in_ok-place_in-in-Some.ensures.lists in
+    subst (λ lists. AreKnownRows model lists candidates c.forget.new.known_items) (sym is)
+    (rows-forgotten model lists candidates c.next_insertion.new.known_items
+    c.forget.new.known_items v list may.vehicle c.in_ok-next.ensures.known c.forget.ensures)
+
 pub loop-step-preserved : goal.loop-step-preserved
 loop-step-preserved c =
     let model = c.args.items.now.lookups.now.closed.model.now in
@@ -89,9 +103,7 @@ loop-step-preserved c =
           c.mark_item.new.marks c.loop-step.invariant.marked c.mark_item.ensures.count
           (λ node d low. c.mark_item.ensures.each node d low
           ∙ ap (λ item. holds (item_nodes item) node || slice_index_or c.loop-step.marks node d) c.item.ensures));
-      known = subst (λ lists. AreKnownRows model lists candidates c.forget.new.known_items) (sym is)
-          (rows-forgotten model lists candidates c.next_insertion.new.known_items
-          c.forget.new.known_items v list may.vehicle c.in_ok-next.ensures.known c.forget.ensures);
+      known = c.lower.ensures.known;
       waiting = record {
         each = c.lower.ensures.waiting;
         all = subst (λ those. unplaced_of c.place_in.new.lists those ≡ unplaced model c.place_in.new.lists) (sym c.lower.ensures.same)

@@ -1,4 +1,5 @@
 use Rattle.std.proofs.Common.{◌≡◌, ◌<◌, ◌≤◌, ℕ, length}
+use Rattle.vr_first_insert.specs.Kept.{AreKnownRows}
 use Rattle.vr_first_insert.specs.Waiting.{waiting_at, waiting_candidates, IsWaiting, IsWaitingElsewhere}
 use Rattle.vr_first_insert.proofs.waiting.lower.Given as goal
 
@@ -9,5 +10,6 @@ invariant-loop-k l = record {
   done : (k : ℕ) → k < l.k → IsWaiting l.items.lookups.now.closed.model.now l.lists l.items.candidates.now (waiting_at l.waiting k);
   left : (k : ℕ) → l.k ≤ k → k < length l.waiting
       → IsWaitingElsewhere l.items.lookups.now.closed.model.now l.lists l.v l.items.candidates.now (waiting_at l.waiting k);
+  known : AreKnownRows l.items.lookups.now.closed.model.now l.lists l.items.candidates.now l.known_items;
   same : waiting_candidates l.items.candidates.now l.waiting ≡ waiting_candidates l.items.candidates.now l.initial.waiting;
 }
