@@ -43,7 +43,7 @@ def is_alive(pid: int) -> bool:
 
 
 def end_all(process: "subprocess.Popen[str]") -> None:
-    """Ends a process with a session of its own, and all that it began, if it did not end by itself."""
+    """Ends a process that leads a group of its own, and all that it began, if it did not end by itself."""
     if process.poll() is None:
         os.killpg(process.pid, signal.SIGKILL)
         process.communicate()
